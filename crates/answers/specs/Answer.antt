@@ -1,0 +1,13 @@
+-- The answers of the calls as the code has them.
+-- Assumes nothing.
+use Rattle.answers.specs.Refusal.{Outcome}
+use Rattle.answers.specs.declared.Done.{Done}
+use Rattle.answers.specs.declared.NodeRead.{NodeRead}
+
+-- an outcome as the answer of the builder or of the check
+abbrev pub done : Outcome → Done
+done o = record { number = o .number; place = o .place; value = o .value }
+
+-- an outcome as the answer of reading a node, its value in table units
+abbrev pub nodeRead : Outcome → NodeRead
+nodeRead o = record { number = o .number; place = o .place; value = record { 0 = o .value } }

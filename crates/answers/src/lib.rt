@@ -1,0 +1,16 @@
+// What a call answers: the number of a refusal or 0, its place, and the value of a served call.
+use units::TableUnits;
+
+// The answer of the builder and of the check, whose value is always 0.
+pub struct Done {
+    pub number: u32,
+    pub place: u64,
+    pub value: u64,
+}
+
+// The answer of reading a node.
+pub struct NodeRead {
+    pub number: u32,
+    pub place: u64,
+    pub value: TableUnits,
+}

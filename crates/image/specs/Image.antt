@@ -1,0 +1,43 @@
+-- The image of a precision, and what a buffer holds of it (document 01, "The image").
+-- Assumes nothing.
+use Prim.Native.Nat.{ℕ, zero, suc, _+_, _*_, _%_, _^_, _<_, _/_}
+use mathlib.Core.Bool.{Bool, cond, not}
+use mathlib.Core.List.{List, [], _∷_, _++_}
+use lib.Dec.{ltb}
+use lib.ListN.{length, take, drop}
+use Rattle.precision.specs.Precision.{wordWidth, wordCount, imageLength}
+use Rattle.nodes.specs.Nodes.{storedWord, isRight}
+use Rattle.packing.specs.Packing.{packedBytes, wordAt, firstByte, spanBytes}
+
+-- the image: the words of nodes 0 to 2^k - 1, packed
+abbrev pub image : ℕ → List ℕ
+image k = packedBytes (wordWidth k) (storedWord k) (wordCount k)
+
+-- what stands after the image in a buffer that was built: what was there before
+abbrev pub afterImage : ℕ → List ℕ → List ℕ
+afterImage k s = drop (imageLength k) s
+
+-- a buffer that was built: the image at its front, and what stands after it
+abbrev pub builtBuffer : ℕ → List ℕ → List ℕ
+builtBuffer k s = image k ++ afterImage k s
+
+-- the word that a buffer holds for node j
+abbrev pub wordOf : ℕ → List ℕ → ℕ → ℕ
+wordOf k s j = wordAt (wordWidth k) s j
+
+-- the word that a buffer holds for node j is not the construction's
+abbrev pub isWrong : ℕ → List ℕ → ℕ → Bool
+isWrong k s j = not (isRight k j (wordOf k s j))
+
+-- the lowest number below n that passes a test, and n where none does
+unfoldable pub lowest : (ℕ → Bool) → ℕ → ℕ
+lowest p zero = zero
+lowest p (suc n) = cond (ltb (lowest p n) n) (lowest p n) (cond (p n) n (suc n))
+
+-- the lowest node whose word is wrong, and 2^k where none is
+abbrev pub firstWrong : ℕ → List ℕ → ℕ
+firstWrong k s = lowest (isWrong k s) (wordCount k)
+
+-- the part of a buffer that holds the word of node j
+abbrev pub wordPart : ℕ → List ℕ → ℕ → List ℕ
+wordPart k s j = take (spanBytes (wordWidth k) j) (drop (firstByte (wordWidth k) j) s)

@@ -1,0 +1,30 @@
+-- The refusals of the calls on an image, each a definition of its own (document 01, "Turned back, in checking order").
+-- Assumes nothing.
+use Prim.Native.Nat.{ℕ, _^_}
+use mathlib.Core.Bool.{Bool, not, _&&_}
+use mathlib.Core.List.{List}
+use lib.Dec.{ltb}
+use lib.ListN.{length}
+use Rattle.precision.specs.Precision.{inRange, imageLength, wordCount}
+use Rattle.answers.specs.Refusal.{Refusal}
+use Rattle.image.specs.Image.{isWrong, firstWrong}
+
+-- 1: the precision is below 1 or above 12
+abbrev pub precisionRefusal : ℕ → Refusal
+precisionRefusal k = record { applies = not (inRange k); number = 1; place = 0 }
+
+-- 2: the image buffer is shorter than the image length for k
+abbrev pub bufferRefusal : ℕ → List ℕ → Refusal
+bufferRefusal k s = record { applies = ltb (length s) (imageLength k); number = 2; place = 0 }
+
+-- 3: the node number is above 2^k
+abbrev pub nodeRefusal : ℕ → ℕ → Refusal
+nodeRefusal k j = record { applies = ltb (2 ^ k) j; number = 3; place = 0 }
+
+-- 6 where every word is read: a word is not the construction's, the place being the lowest such node
+abbrev pub imageRefusal : ℕ → List ℕ → Refusal
+imageRefusal k s = record { applies = ltb (firstWrong k s) (wordCount k); number = 6; place = firstWrong k s }
+
+-- 6 where the word of node j alone is read, and none at node 2^k
+abbrev pub wordRefusal : ℕ → List ℕ → ℕ → Refusal
+wordRefusal k s j = record { applies = ltb j (2 ^ k) && isWrong k s j; number = 6; place = j }

@@ -1,0 +1,48 @@
+-- The nodes, their words and how a word is decoded (document 01, "Construction of the nodes" and "The image";
+-- document 002, Algorithm 1).
+-- Assumes nothing.
+use Prim.Native.Nat.{ℕ, _+_, _*_, _%_, _^_}
+use mathlib.Core.Bool.{Bool, cond, _&&_}
+use lib.Dec.{leb, ltb, eqb}
+use Rattle.precision.specs.Precision.{wordWidth, inRange}
+use Rattle.quotient.specs.Quotient.{roundedUp}
+
+-- c(j), in table units: 2^(3k+3) / i rounded up to a whole number, with i = 2^k + j
+abbrev pub node : ℕ → ℕ → ℕ
+node k j = roundedUp (2 ^ (3 * k + 3)) (2 ^ k + j)
+
+-- the word that is stored for node j: c(j) modulo 2^(2k+2)
+abbrev pub storedWord : ℕ → ℕ → ℕ
+storedWord k j = node k j % 2 ^ wordWidth k
+
+-- the value that a word stands for below an implied leading one of 2^w; a zero word at node 0 means 2 × 2^w
+abbrev pub decodeBelow : ℕ → ℕ → ℕ → ℕ
+decodeBelow lead j word = cond (eqb j 0 && eqb word 0) (2 * lead) (lead + word)
+
+-- the value of node j whose word is given: implied at node 2^k, which has no word
+abbrev pub decode : ℕ → ℕ → ℕ → ℕ
+decode k j word = cond (eqb j (2 ^ k)) (2 ^ (2 * k + 2)) (decodeBelow (2 ^ wordWidth k) j word)
+
+-- node j of precision k stands in the table, from 0 to 2^k
+abbrev pub hasNode : ℕ → ℕ → Bool
+hasNode k j = inRange k && leb j (2 ^ k)
+
+-- node j of precision k has a word
+abbrev pub hasWord : ℕ → ℕ → Bool
+hasWord k j = inRange k && ltb j (2 ^ k)
+
+-- c(j), and 0 where there is no such node
+abbrev pub nodeOr0 : ℕ → ℕ → ℕ
+nodeOr0 k j = cond (hasNode k j) (node k j) 0
+
+-- the word of node j, and 0 where node j has no word
+abbrev pub wordOr0 : ℕ → ℕ → ℕ
+wordOr0 k j = cond (hasWord k j) (storedWord k j) 0
+
+-- a word is right at node j when it is the construction's
+abbrev pub isRight : ℕ → ℕ → ℕ → Bool
+isRight k j word = eqb word (storedWord k j)
+
+-- the value of a right word, and 0, which no node has, for a wrong word and where node j has no word
+abbrev pub judged : ℕ → ℕ → ℕ → ℕ
+judged k j word = cond (hasWord k j && isRight k j word) (decode k j word) 0

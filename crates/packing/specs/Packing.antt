@@ -1,0 +1,72 @@
+-- Words packed into bytes, most significant bit first, for any width w and any word function (document 01, "The image").
+-- Assumes nothing.
+use Prim.Native.Nat.{ℕ, zero, suc, _+_, _-_, _*_, _/_, _%_, _^_}
+use mathlib.Core.List.{List, [], _∷_, _++_}
+use mathlib.Core.Bool.{Bool, cond, _&&_}
+use lib.Dec.{leb}
+use lib.ListN.{getD, length}
+
+-- the number that the first n words of w bits make, written one after the other
+abbrev pub packed : ℕ → (ℕ → ℕ) → ℕ → ℕ
+packed w f zero = 0
+packed w f (suc n) = packed w f n * 2 ^ w + f n
+
+-- the lowest n bytes of a number, most significant first
+abbrev pub toBytes : ℕ → ℕ → List ℕ
+toBytes zero v = []
+toBytes (suc n) v = toBytes n (v / 256) ++ (v % 256 ∷ [])
+
+-- the bytes that n words of w bits take
+abbrev pub byteCount : ℕ → ℕ → ℕ
+byteCount w n = (n * w + 7) / 8
+
+-- the zero bits from the last word to the end of the last byte
+abbrev pub fillBits : ℕ → ℕ → ℕ
+fillBits w n = 8 * byteCount w n - n * w
+
+-- n words of w bits, packed with no padding between them, and zero bits to the byte's end
+abbrev pub packedBytes : ℕ → (ℕ → ℕ) → ℕ → List ℕ
+packedBytes w f n = toBytes (byteCount w n) (packed w f n * 2 ^ fillBits w n)
+
+-- the number that n bytes from place a make
+abbrev pub bytesValue : List ℕ → ℕ → ℕ → ℕ
+bytesValue s a n = packed 8 (λ (i : ℕ). getD s (a + i) 0) n
+
+-- the first and the last of the bytes that hold word j
+abbrev pub firstByte : ℕ → ℕ → ℕ
+firstByte w j = j * w / 8
+
+abbrev pub lastByte : ℕ → ℕ → ℕ
+lastByte w j = (j * w + w - 1) / 8
+
+-- how many bytes hold word j
+abbrev pub spanBytes : ℕ → ℕ → ℕ
+spanBytes w j = lastByte w j + 1 - firstByte w j
+
+-- the bits of those bytes that follow word j
+abbrev pub bitsBehind : ℕ → ℕ → ℕ
+bitsBehind w j = 8 * (lastByte w j + 1) - (j * w + w)
+
+-- the word at j of any byte list: what its bytes hold less the bits behind it and before it; bytes past the end count as 0
+unfoldable pub wordAt : ℕ → List ℕ → ℕ → ℕ
+wordAt w s j = bytesValue s (firstByte w j) (spanBytes w j) / 2 ^ bitsBehind w j % 2 ^ w
+
+-- bit i of a byte list, the most significant bit of byte 0 being bit 0
+abbrev pub bitAt : List ℕ → ℕ → ℕ
+bitAt s i = getD s (i / 8) 0 / 2 ^ (7 - i % 8) % 2
+
+-- bit b of a word of w bits, the most significant bit being bit 0
+abbrev pub bitOfWord : ℕ → ℕ → ℕ → ℕ
+bitOfWord w v b = v / 2 ^ (w - 1 - b) % 2
+
+-- the widest word that is read in one piece: with up to 7 bits before it, it lies within 8 bytes
+abbrev pub widest : ℕ
+widest = 57
+
+-- word j can be read: its width is from 1 to the widest, and its bits lie within the bytes
+abbrev pub isReadable : ℕ → List ℕ → ℕ → Bool
+isReadable w s j = leb 1 w && leb w widest && leb (j * w + w) (8 * length s)
+
+-- the word at j, and 0 where it cannot be read
+abbrev pub wordRead : ℕ → List ℕ → ℕ → ℕ
+wordRead w s j = cond (isReadable w s j) (wordAt w s j) 0

@@ -1,0 +1,37 @@
+-- The notion of a precision k (document 01, "Quantities" and "The image").
+-- Assumes nothing.
+use Prim.Native.Nat.{ℕ, _+_, _*_, _/_, _^_}
+use mathlib.Core.Bool.{Bool, cond, _&&_}
+use lib.Dec.{leb}
+
+-- the least precision
+abbrev pub least : ℕ
+least = 1
+
+-- the greatest precision
+abbrev pub greatest : ℕ
+greatest = 12
+
+-- k is a precision
+abbrev pub inRange : ℕ → Bool
+inRange k = leb least k && leb k greatest
+
+-- the bits of one word: w = 2k + 2
+abbrev pub wordWidth : ℕ → ℕ
+wordWidth k = 2 * k + 2
+
+-- the words of an image: one for each node below node 2^k
+abbrev pub wordCount : ℕ → ℕ
+wordCount k = 2 ^ k
+
+-- the bytes of an image: 2^k × (2k + 2) / 8
+abbrev pub imageLength : ℕ → ℕ
+imageLength k = wordCount k * wordWidth k / 8
+
+-- the bytes of the longest image
+abbrev pub longestImage : ℕ
+longestImage = imageLength greatest
+
+-- the bytes of the image that is ordered at k: none where k is no precision
+abbrev pub orderedLength : ℕ → ℕ
+orderedLength k = cond (inRange k) (imageLength k) 0

@@ -1,0 +1,30 @@
+// A quotient rounded up to a whole number, and a test of one by a product alone.
+ghost use mathlib.Core.Path.{_≡_};
+ghost use Rattle.quotient.specs.Quotient.{roundedUp, roundsUp};
+
+// numerator / divisor rounded up, 0 where the divisor is 0.
+pub fn rounded_up(numerator: u64, divisor: u32) -> u64
+    ensures { λ r. ⌜ r ≡ roundedUp numerator divisor ⌝ }
+{
+    if divisor == 0 {
+        return 0;
+    }
+    let i = divisor as u64;
+    let down = numerator / i;
+    if down * i == numerator {
+        down
+    } else {
+        down + 1
+    }
+}
+
+// Whether value is the quotient rounded up, without dividing; never where the divisor is 0.
+pub fn rounds_up(numerator: u64, divisor: u32, value: u32) -> bool
+    ensures { λ r. ⌜ r ≡ roundsUp numerator divisor value ⌝ }
+{
+    let product = (value as u64) * (divisor as u64);
+    if product < numerator {
+        return false;
+    }
+    product - numerator < divisor as u64
+}
