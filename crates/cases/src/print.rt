@@ -4,7 +4,7 @@
 pub type Page = [u8; 4096];
 
 // Puts one byte; where the page is full, it is written first.
-pub fn put(out: &mut Page, at: &mut usize, b: u8) {
+pub(crate) fn put(out: &mut Page, at: &mut usize, b: u8) {
     let i = *at;
     if i < 4096 {
         out[i] = b;
@@ -17,7 +17,7 @@ pub fn put(out: &mut Page, at: &mut usize, b: u8) {
 }
 
 // Writes what the page holds so far.
-pub fn flush(out: &Page, at: usize) {
+pub(crate) fn flush(out: &Page, at: usize) {
     write_front(out, at);
 }
 
@@ -27,7 +27,7 @@ fn write_front(s: &[u8], n: usize) {
     }
 }
 
-pub fn text(out: &mut Page, at: &mut usize, s: &[u8]) {
+pub(crate) fn text(out: &mut Page, at: &mut usize, s: &[u8]) {
     let mut i = 0;
     while i < s.len() {
         put(out, at, s[i]);
@@ -35,14 +35,14 @@ pub fn text(out: &mut Page, at: &mut usize, s: &[u8]) {
     }
 }
 
-pub fn number(out: &mut Page, at: &mut usize, n: u64) {
+pub(crate) fn number(out: &mut Page, at: &mut usize, n: u64) {
     let mut digits = [0u8; 20];
     let k = io::decimal(n, &mut digits);
     text(out, at, &digits[..k]);
 }
 
 // A text, and a number after it.
-pub fn labelled(out: &mut Page, at: &mut usize, s: &[u8], n: u64) {
+pub(crate) fn labelled(out: &mut Page, at: &mut usize, s: &[u8], n: u64) {
     text(out, at, s);
     number(out, at, n);
 }
@@ -58,13 +58,13 @@ fn hex_digit(d: u8) -> u8 {
 }
 
 // A byte as two hex digits.
-pub fn hex(out: &mut Page, at: &mut usize, b: u8) {
+pub(crate) fn hex(out: &mut Page, at: &mut usize, b: u8) {
     put(out, at, hex_digit(b / 16));
     put(out, at, hex_digit(b % 16));
 }
 
 // Bytes in hex, a space before each; above 32 bytes each 32 of them begin a new line.
-pub fn bytes(out: &mut Page, at: &mut usize, s: &[u8]) {
+pub(crate) fn bytes(out: &mut Page, at: &mut usize, s: &[u8]) {
     let mut i = 0;
     while i < s.len() {
         space(out, at, s.len(), i);
@@ -80,16 +80,4 @@ fn space(out: &mut Page, at: &mut usize, length: usize, i: usize) {
         }
     }
     put(out, at, 32);
-}
-
-// The digit of v that counts `unit`, in base 2.
-pub fn bit(out: &mut Page, at: &mut usize, v: u64, unit: u64) {
-    if unit == 0 {
-        return;
-    }
-    if (v / unit) % 2 == 0 {
-        put(out, at, 48);
-    } else {
-        put(out, at, 49);
-    }
 }
