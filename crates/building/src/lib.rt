@@ -25,7 +25,13 @@ pub fn build(k: Precision, image: &mut [u8]) -> Done
         };
     }
     let p = k.0;
-    fill(image, 2 * p + 2, 1 << p, 1 << (3 * p + 3), 1 << p);
+    fill(
+        image,
+        2 * p + 2,
+        bits::power(p) as u32,
+        bits::power(3 * p + 3),
+        bits::power(p) as u32,
+    );
     Done {
         number: 0,
         place: 0,
@@ -41,13 +47,13 @@ fn fill(image: &mut [u8], width: u32, count: u32, numerator: u64, first: u32) {
     loop {
         if 8 <= left {
             left -= 8;
-            let byte = acc >> left;
+            let byte = bits::high(acc, left);
             image[at] = (byte % 256) as u8;
-            acc = acc - (byte << left);
+            acc = bits::low(acc, left);
             at += 1;
         } else if j < count {
             let c = quotient::rounded_up(numerator, first + j);
-            let word = c - ((c >> width) << width);
+            let word = bits::low(c, width);
             acc = (acc << width) + word;
             left += width;
             j += 1;

@@ -23,7 +23,7 @@ pub fn check(k: Precision, image: &[u8]) -> Done
             value: 0,
         };
     }
-    let count: u32 = 1 << k.0;
+    let count = bits::power(k.0) as u32;
     let place = first_wrong(k, image, count);
     if place < count {
         return Done {

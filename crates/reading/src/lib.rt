@@ -24,7 +24,7 @@ pub fn node(k: Precision, image: &[u8], j: u32) -> NodeRead
             value: TableUnits(0),
         };
     }
-    let count: u32 = 1 << k.0;
+    let count = bits::power(k.0) as u32;
     if count < j {
         return NodeRead {
             number: 3,
@@ -36,7 +36,7 @@ pub fn node(k: Precision, image: &[u8], j: u32) -> NodeRead
         return NodeRead {
             number: 0,
             place: 0,
-            value: TableUnits(1 << (2 * k.0 + 2)),
+            value: TableUnits(bits::power(2 * k.0 + 2)),
         };
     }
     let c = nodes::judge(k, j, packing::word(image, k.word_width() as u32, j));
@@ -64,7 +64,7 @@ pub fn word_bytes(k: Precision, image: &[u8], j: u32) -> &[u8]
     if image.len() < k.image_length() {
         return &image[..0];
     }
-    let count: u32 = 1 << k.0;
+    let count = bits::power(k.0) as u32;
     if count <= j {
         return &image[..0];
     }
