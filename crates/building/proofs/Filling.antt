@@ -63,35 +63,35 @@ module _ {w n : ℕ} {f : ℕ → ℕ} {before now : List ℕ} {waiting left at 
   -- whole bytes are given out from the front of what waits
   pub give : 8 ≤ left → Filling w n f before (set now at (waiting / 2 ^ (left - 8) % 256)) (waiting % 2 ^ (left - 8)) (left - 8) (at + 1) j
   give h =
-      record
-      { taken = s .taken
-      ; room = s .room
-      ; place = omega (arith, s .place)
-      ; short = omega (arith, s .short)
-      ; bits = ap (λ (x : ℕ). x % 2 ^ (left - 8)) (s .bits) ∙ give-rest (packed w f j) left h
-      ; bytes =
-          ap (λ (l : List ℕ). set l at (waiting / 2 ^ (left - 8) % 256)) (s .bytes)
-          ∙ write-next (toBytes at (packed w f j / 2 ^ left)) before at (waiting / 2 ^ (left - 8) % 256) (length-toBytes at _) (has-room h)
-          ∙ ap (λ (l : List ℕ). l ++ drop (at + 1) before)
-          (ap (λ (b : ℕ). toBytes at (packed w f j / 2 ^ left) ++ (b ∷ []))
-          (ap (λ (x : ℕ). x / 2 ^ (left - 8) % 256) (s .bits) ∙ mod-eq-of-lt (give-small (packed w f j) left h))
-          ∙ sym (give-byte at (packed w f j) left h))
+      record {
+        taken = s .taken;
+        room = s .room;
+        place = omega (arith, s .place);
+        short = omega (arith, s .short);
+        bits = ap (λ (x : ℕ). x % 2 ^ (left - 8)) (s .bits) ∙ give-rest (packed w f j) left h;
+        bytes =
+            ap (λ (l : List ℕ). set l at (waiting / 2 ^ (left - 8) % 256)) (s .bytes)
+            ∙ write-next (toBytes at (packed w f j / 2 ^ left)) before at (waiting / 2 ^ (left - 8) % 256) (length-toBytes at _) (has-room h)
+            ∙ ap (λ (l : List ℕ). l ++ drop (at + 1) before)
+            (ap (λ (b : ℕ). toBytes at (packed w f j / 2 ^ left) ++ (b ∷ []))
+            (ap (λ (x : ℕ). x / 2 ^ (left - 8) % 256) (s .bits) ∙ mod-eq-of-lt (give-small (packed w f j) left h))
+            ∙ sym (give-byte at (packed w f j) left h));
       }
 
   -- a word is taken in behind what waits
   pub take : (v : ℕ) → v ≡ f j → v < 2 ^ w → left < 8 → j < n → Filling w n f before now (waiting * 2 ^ w + v) (left + w) at (j + 1)
   take v e h l k =
-      record
-      { taken = omega arith
-      ; room = s .room
-      ; place = omega (arith, s .place)
-      ; short = omega arith
-      ; bits =
-          ap (λ (x : ℕ). x * 2 ^ w + v) (s .bits) ∙ sym (take-low (packed w f j) v w left h) ∙ ap (λ (x : ℕ). x % 2 ^ (left + w)) next
-      ; bytes =
-          s .bytes
-          ∙ ap (λ (x : ℕ). toBytes at x ++ drop at before)
-          (sym (take-high (packed w f j) v w left h) ∙ ap (λ (x : ℕ). x / 2 ^ (left + w)) next)
+      record {
+        taken = omega arith;
+        room = s .room;
+        place = omega (arith, s .place);
+        short = omega arith;
+        bits =
+            ap (λ (x : ℕ). x * 2 ^ w + v) (s .bits) ∙ sym (take-low (packed w f j) v w left h) ∙ ap (λ (x : ℕ). x % 2 ^ (left + w)) next;
+        bytes =
+            s .bytes
+            ∙ ap (λ (x : ℕ). toBytes at x ++ drop at before)
+            (sym (take-high (packed w f j) v w left h) ∙ ap (λ (x : ℕ). x / 2 ^ (left + w)) next);
       }
     where
       next : packed w f j * 2 ^ w + v ≡ packed w f (j + 1)

@@ -54,16 +54,10 @@ pub fn build(k: Precision, image: &mut [u8]) -> Done
     ensures { λ r. ⌜ now (image .exit) ≡ buildLeaves (k .0) (now (image .entry)) ⌝ }
 {
     let p = k.0;
-    if !k.in_range() {
+    let number = image::broken_limit(k, image.len());
+    if number != 0 {
         return Done {
-            number: 1,
-            place: 0,
-            value: 0,
-        };
-    }
-    if image.len() < k.image_length() {
-        return Done {
-            number: 2,
+            number,
             place: 0,
             value: 0,
         };

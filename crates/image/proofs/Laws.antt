@@ -77,10 +77,11 @@ module _ (k : ℕ) (one : 1 ≤ k) where
   -- so it is read as it stands
   pub word-read : (s : List ℕ) (j : ℕ) → k ≤ 12 → imageLength k ≤ length s → j < wordCount k → wordRead (wordWidth k) s j ≡ wordOf k s j
   word-read s j top h l =
-      simp
-      (le-leb 1 (wordWidth k) (omega arith),
-      le-leb (wordWidth k) widest (omega arith),
-      le-leb (j * wordWidth k + wordWidth k) (8 * length s) (word-in-buffer s j h l))
+      simp (
+        le-leb 1 (wordWidth k) (omega arith),
+        le-leb (wordWidth k) widest (omega arith),
+        le-leb (j * wordWidth k + wordWidth k) (8 * length s) (word-in-buffer s j h l),
+      )
 
   -- a buffer whose words are right starts with the image, and the other way round
   pub right-front : (s : List ℕ) → Bytes s → imageLength k ≤ length s → ((j : ℕ) → j < wordCount k → wordOf k s j ≡ storedWord k j) → take (imageLength k) s ≡ image k

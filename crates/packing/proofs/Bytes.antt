@@ -68,6 +68,7 @@ value-step s a e h =
   where
     more : e + 1 - a ≡ suc (e - a)
     more = omega arith
+
     there : a + (e - a) ≡ e
     there = omega arith
 

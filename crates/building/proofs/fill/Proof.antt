@@ -52,7 +52,7 @@ loop-less : tie.Need-loop-less Inv-loop μ-loop
 loop-less c = omega (arith, c .before .before .if1 .taken)
 
 loop-again : tie.Need-loop-again Inv-loop μ-loop
-loop-again c = 
+loop-again c =
     rw (c .before .high .ensures, c .low .ensures)
     (give (c .before .before .before .loop .inv) (c .before .before .if1 .taken))
 
@@ -66,7 +66,7 @@ low-requires-2 : tie.Need-low-requires-2 Inv-loop μ-loop
 low-requires-2 c κs = search needs
 
 joined-requires : tie.Need-joined-requires Inv-loop μ-loop
-joined-requires c κs = 
+joined-requires c κs =
     let s = c .before .before .before .before .loop .inv in
     let w = c .before .before .before .before .before .before .args .width in
     (omega arith, joined-fits s (c .low2 .result) w (rw (c .low2 .ensures) (mod-lt _ (pow-pos w))) (omega arith))
@@ -78,7 +78,7 @@ add-j : tie.Need-add-j Inv-loop μ-loop
 add-j c = search needs
 
 loop-less-2 : tie.Need-loop-less-2 Inv-loop μ-loop
-loop-less-2 c = 
+loop-less-2 c =
     let n = c .before .before .before .before .before .before .before .args .count in
     let j = c .before .before .before .before .before .loop .j in
     let w = c .before .before .before .before .before .before .before .args .width in
@@ -86,7 +86,7 @@ loop-less-2 c =
     omega (arith, ap (λ (x : ℕ). x * (w + 1)) e)
 
 loop-again-2 : tie.Need-loop-again-2 Inv-loop μ-loop
-loop-again-2 c = 
+loop-again-2 c =
     let s = c .before .before .before .before .before .loop .inv in
     let w = c .before .before .before .before .before .before .before .args .width in
     rw (c .joined .ensures)
@@ -100,7 +100,7 @@ sub-joined : tie.Need-sub-joined Inv-loop μ-loop
 sub-joined c = search needs
 
 joined-requires-2 : tie.Need-joined-requires-2 Inv-loop μ-loop
-joined-requires-2 c κs = 
+joined-requires-2 c κs =
     let s = c .before .before .before .loop .inv in
     let left = c .before .before .before .loop .left in
     (omega arith, joined-fits s 0 (8 - left) (pow-pos (8 - left)) (omega arith))
@@ -109,7 +109,7 @@ cast-image-2 : tie.Need-cast-image-2 Inv-loop μ-loop
 cast-image-2 c = search needs
 
 slice-write-image-2 : tie.Need-slice-write-image-2 Inv-loop μ-loop
-slice-write-image-2 c = 
+slice-write-image-2 c =
     let s = c .before .before .before .before .loop .inv in
     omega (arith, part-has-room s (c .before .before .if2 .left) (c .before .if3 .taken), kept s)
 
@@ -117,7 +117,7 @@ same-length : tie.Need-same-length Inv-loop μ-loop
 same-length c = simp length-set (kept (c .before .before .before .before .loop .inv))
 
 returns : tie.Need-returns Inv-loop μ-loop
-returns c = 
+returns c =
     rw (c .joined2 .ensures)
     (finish-part (c .before .before .before .before .loop .inv) (c .before .before .if2 .left) (c .before .before .before .if1 .left) (c .before .if3 .taken))
 

@@ -24,11 +24,12 @@ abbrev μ-loop : tie.MeasureT-loop
 
 -- src/lib.rt:17:5
 loop-holds : tie.Need-loop-holds Inv-loop μ-loop
-loop-holds c =
-    ( omega arith
-    , omega arith
-    , ap (bytesValue (now (c .args .s)) (c .args .first)) (sym (sub-self (c .args .first)))
-    , pow-pos (8 * (c .args .first - c .args .first)))
+loop-holds c = (
+  omega arith,
+  omega arith,
+  ap (bytesValue (now (c .args .s)) (c .args .first)) (sym (sub-self (c .args .first))),
+  pow-pos (8 * (c .args .first - c .args .first)),
+)
 
 -- src/lib.rt:18:17
 mul-value : tie.Need-mul-value Inv-loop μ-loop
@@ -65,11 +66,12 @@ loop-again c =
     let first = c .before .before .before .args .first in
     let at = c .before .before .loop .at in
     let value = c .before .before .loop .value in
-    let inv = c .before .before .loop .inv in
-    ( omega arith
-    , omega arith
-    , ap (λ (x : ℕ). x * 256 + getD s at 0) (inv .2) ∙ sym (value-step s first at (inv .0))
-    , value-step-lt value (getD s at 0) first at (inv .0) (inv .3) (omega (arith, c .shared-slice-known .given at)))
+    let inv = c .before .before .loop .inv in (
+      omega arith,
+      omega arith,
+      ap (λ (x : ℕ). x * 256 + getD s at 0) (inv .2) ∙ sym (value-step s first at (inv .0)),
+      value-step-lt value (getD s at 0) first at (inv .0) (inv .3) (omega (arith, c .shared-slice-known .given at)),
+    )
 
 -- src/lib.rt:11:1
 returns : tie.Need-returns Inv-loop μ-loop
