@@ -1,13 +1,12 @@
 -- Laws of bits: most significant bit first, with no padding. Bit b of word j is bit j × w + b of the bytes.
 -- Assumes nothing.
-use Prim.Native.Nat.{ℕ, zero, suc, _+_, _-_, _*_, _/_, _%_, _^_, _≤_, _<_}
-use mathlib.Core.Path.{_≡_, refl, sym, ap, ap₂, _∙_, subst}
-use mathlib.Core.List.{List, [], _∷_, _++_}
-use native.Mathlib.Nat.{add-zero, mul-one}
+use Prim.Native.Nat.{ℕ, _+_, _-_, _*_, _/_, _%_, _^_, _<_}
+use mathlib.Core.Path.{_≡_, sym, ap, ap₂, _∙_}
+use mathlib.Core.List.{List}
 use native.Mathlib.Omega.{arith}
 use lib.ListN.{getD}
 use lib.Pow.{shr-shr, field, mod-mod-pow}
-use Rattle.packing.specs.Packing.{packed, bytesValue, Bytes, firstByte, lastByte, spanBytes, bitsBehind, wordAt, bitAt, bitOfWord}
+use Rattle.packing.specs.Packing.{bytesValue, Bytes, firstByte, spanBytes, bitsBehind, wordAt, bitAt, bitOfWord}
 use Rattle.packing.proofs.Words.{word-is-digit}
 
 -- a word of width 1 is a bit

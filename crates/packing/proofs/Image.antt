@@ -1,9 +1,9 @@
 -- Packed words and their bytes: reading gives back what was packed, and right words determine the bytes.
 -- Assumes nothing.
-use Prim.Native.Nat.{ℕ, zero, suc, _+_, _-_, _*_, _/_, _%_, _^_, _≤_, _<_}
-use mathlib.Core.Path.{_≡_, refl, sym, ap, ap₂, _∙_, subst}
-use mathlib.Core.List.{List, [], _∷_, _++_}
-use native.Mathlib.Nat.{add-zero, mod-eq-of-lt, mod-one, zero-mod}
+use Prim.Native.Nat.{ℕ, suc, _+_, _-_, _*_, _/_, _%_, _^_, _≤_, _<_}
+use mathlib.Core.Path.{_≡_, sym, ap, ap₂, _∙_, subst}
+use mathlib.Core.List.{List, _++_}
+use native.Mathlib.Nat.{add-zero, mod-eq-of-lt, mod-one}
 use native.Mathlib.Omega.{arith}
 use lib.ListN.{getD, length, take, drop, take-append-drop, List·getD-append}
 use lib.Pow.{split, shl-lt, shl-shr, shr-lt, shr-shr}

@@ -1,15 +1,14 @@
 -- Laws of `wordAt`: a word of a byte list is a digit of the list's number, also where the last byte has filling bits.
 -- Assumes nothing.
-use Prim.Native.Nat.{ℕ, zero, suc, _+_, _-_, _*_, _/_, _%_, _^_, _≤_, _<_}
-use mathlib.Core.Path.{_≡_, refl, sym, ap, ap₂, _∙_, subst}
-use mathlib.Core.List.{List, [], _∷_, _++_}
-use native.Mathlib.Nat.{zero-add, mul-comm, mul-assoc, mul-le-mul-right, mul-add-div-right, mul-add-mod-self-right, mod-lt, mod-eq-of-lt, mul-one, div-lt-iff-lt-mul}
+use Prim.Native.Nat.{ℕ, _+_, _-_, _*_, _/_, _%_, _^_, _≤_, _<_}
+use mathlib.Core.Path.{_≡_, sym, ap, ap₂, _∙_, subst}
+use mathlib.Core.List.{List}
+use native.Mathlib.Nat.{zero-add, mul-comm, mul-le-mul-right, mul-add-div-right, mul-add-mod-self-right, mod-lt}
 use native.Mathlib.Omega.{arith}
-use lib.ListN.{getD, length, take, List·getD-append}
-use lib.Pow.{pow-pos, pow-add, shl-lt, shl-shr, shr-lt, shr-shr}
-use Rattle.packing.specs.Packing.{packed, toBytes, byteCount, fillBits, packedBytes, bytesValue, Bytes, firstByte, lastByte, spanBytes, bitsBehind, wordAt}
-use Rattle.packing.proofs.Numbers.{packed-lt, packed-ext, packed-add, packed-front, packed-digit, packed-unique}
-use Rattle.packing.proofs.Bytes.{length-toBytes, bytes-toBytes, value-lt, value-toBytes-exact, toBytes-value}
+use lib.ListN.{getD}
+use lib.Pow.{pow-pos, pow-add, shr-shr}
+use Rattle.packing.specs.Packing.{byteCount, fillBits, bytesValue, Bytes, firstByte, lastByte, spanBytes, bitsBehind, wordAt}
+use Rattle.packing.proofs.Numbers.{packed-ext, packed-add, packed-front}
 
 -- bits from x + w on above do not reach the w bits from k on
 cut : (p q x w k : ℕ) → (p * 2 ^ (x + w + k) + q) / 2 ^ k % 2 ^ w ≡ q / 2 ^ k % 2 ^ w
