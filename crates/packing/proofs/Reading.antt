@@ -4,6 +4,7 @@ use Prim.Native.Nat.{ℕ, _+_, _-_, _*_, _/_, _%_, _^_, _≤_, _<_}
 use mathlib.Core.Path.{_≡_, ap}
 use mathlib.Core.Bool.{and-false}
 use mathlib.Core.List.{List}
+use native.Mathlib.Nat.{mul-le-mul}
 use native.Mathlib.Omega.{arith}
 use borrow.Author.Tests.{le-leb, lt-leb}
 use lib.ListN.{length}
@@ -38,3 +39,10 @@ pub word-by-past : (w : ℕ) (s : List ℕ) (j p : ℕ) → p ≡ lastByte w j +
     → bytesValue s (j * w / 8) (p - j * w / 8) / 2 ^ (8 * p - (j * w + w)) % 2 ^ w ≡ wordAt w s j
 unfolding wordAt
 word-by-past w s j p e = ap (λ (x : ℕ). bytesValue s (j * w / 8) (x - j * w / 8) / 2 ^ (8 * x - (j * w + w)) % 2 ^ w) e
+
+-- the bit at which a word starts, of a number j and a width as large as they come
+pub bit-small : (w j : ℕ) → w ≤ widest → j < 2 ^ 32 → j * w ≤ (2 ^ 32 - 1) * widest
+bit-small w j wide h = mul-le-mul le wide
+  where
+    le : j ≤ 2 ^ 32 - 1
+    le = omega arith

@@ -2,11 +2,10 @@
 -- are those of the word. Assumes nothing.
 use Prim.Native.Nat.{ℕ, _+_, _*_, _-_, _/_, _%_, _^_, _≤_}
 use mathlib.Core.Path.{sym, ap, _∙_}
-use native.Mathlib.Nat.{mul-le-mul}
 use native.Mathlib.Omega.{arith}
 use denote.Ref.{now}
 use lib.ListN.{length}
-use Rattle.packing.proofs.Reading.{read-narrow, read-wide, read-short, read-there, past-last, word-by-past}
+use Rattle.packing.proofs.Reading.{read-narrow, read-wide, read-short, read-there, past-last, word-by-past, bit-small}
 use borrow.Author.Needs.{needs}
 use Rattle.packing.proofs.word.Statement.{statement}
 use Rattle.packing.proofs.word.Tie as tie
@@ -19,25 +18,22 @@ returns c =
 returns-2 : tie.Need-returns-2
 returns-2 c =
     let a = c .before .before .before .args in
-    sym (read-wide (a .width) (now (a .s)) (a .j) (c .if2 .taken))
+    sym (read-wide (a .width) (now (a .s)) (a .j) (omega arith))
 
 mul-bit : tie.Need-mul-bit
 mul-bit c =
     let a = c .before .before .before .args in
-    let hj : a .j ≤ 4294967295 = omega arith in
-    omega (arith, mul-le-mul hj (c .if2 .left))
+    omega (arith, bit-small (a .width) (a .j) (omega arith) (omega arith))
 
 add-end : tie.Need-add-end
 add-end c =
     let a = c .before .before .before .args in
-    let hj : a .j ≤ 4294967295 = omega arith in
-    omega (arith, mul-le-mul hj (c .if2 .left))
+    omega (arith, bit-small (a .width) (a .j) (omega arith) (omega arith))
 
 add-past : tie.Need-add-past
 add-past c =
     let a = c .before .before .before .args in
-    let hj : a .j ≤ 4294967295 = omega arith in
-    omega (arith, mul-le-mul hj (c .if2 .left))
+    omega (arith, bit-small (a .width) (a .j) (omega arith) (omega arith))
 
 returns-3 : tie.Need-returns-3
 returns-3 c =
@@ -47,8 +43,7 @@ returns-3 c =
 mul-behind : tie.Need-mul-behind
 mul-behind c =
     let a = c .before .before .before .before .args in
-    let hj : a .j ≤ 4294967295 = omega arith in
-    omega (arith, mul-le-mul hj (c .before .if2 .left))
+    omega (arith, bit-small (a .width) (a .j) (omega arith) (omega arith))
 
 sub-behind : tie.Need-sub-behind
 sub-behind c = search needs
@@ -70,8 +65,8 @@ returns-4 c =
     let a = c .before .before .before .before .before .before .before .args in
     let past = (a .j * a .width + a .width + 7) / 8 in
     let one : 1 ≤ a .width = omega arith in
-    let wide : a .width ≤ 57 = c .before .before .before .before .if2 .left in
-    let there : a .j * a .width + a .width ≤ 8 * length (now (a .s)) = omega (arith, c .before .before .before .if3 .left) in
+    let wide : a .width ≤ 57 = omega arith in
+    let there : a .j * a .width + a .width ≤ 8 * length (now (a .s)) = omega arith in
     c .low .ensures
     ∙ ap (λ (x : ℕ). x % 2 ^ a .width)
     (c .before .high .ensures
