@@ -3,15 +3,15 @@
 use Prim.Native.Nat.{ℕ, zero, suc, _+_, _-_, _*_, _/_, _%_, _^_, _≤_, _<_}
 use mathlib.Core.Path.{_≡_, refl, sym, ap, ap₂, _∙_, subst}
 use mathlib.Core.List.{List, [], _∷_, _++_, append-assoc}
-use native.Mathlib.Nat.{le-refl, le-trans, le-suc, zero-add, mul-comm, mul-suc, mod-eq-of-lt, mod-one, mod-lt, zero-lt-suc}
+use native.Mathlib.Nat.{le-trans, le-suc, zero-add, mul-comm, mul-suc, mod-eq-of-lt, mod-one}
 use native.Mathlib.Numerals.{add-one}
 use native.Mathlib.Omega.{arith}
 use lib.ListN.{getD, length, take, length-append}
 use lib.Seq.{take-suc, getD-at}
 use lib.Arith.{digits-lt}
-use lib.Pow.{pow-pos, pow-add, high, low, mod-pow-add}
-use Rattle.packing.specs.Packing.{packed, toBytes, bytesValue, Bytes}
-use Rattle.packing.proofs.Numbers.{packed-lt, packed-ext}
+use lib.Pow.{pow-add, high, low, mod-pow-add}
+use Rattle.packing.specs.Packing.{toBytes, bytesValue, Bytes}
+use Rattle.packing.proofs.Numbers.{packed-lt}
 
 -- as many bytes as asked for
 pub length-toBytes : (n v : ℕ) → length (toBytes n v) ≡ n

@@ -1,9 +1,9 @@
 -- Packing from the front with an accumulator: `left` bits of P wait, the bits before them stand as bytes. What taking a word
 -- and giving a byte do to the three.
 -- Assumes nothing.
-use Prim.Native.Nat.{ℕ, zero, suc, _+_, _-_, _*_, _/_, _%_, _^_, _≤_, _<_}
-use mathlib.Core.Path.{_≡_, refl, sym, ap, ap₂, _∙_, subst}
-use mathlib.Core.List.{List, [], _∷_, _++_}
+use Prim.Native.Nat.{ℕ, _+_, _-_, _*_, _/_, _%_, _^_, _≤_, _<_}
+use mathlib.Core.Path.{_≡_, sym, ap, ap₂, _∙_, subst}
+use mathlib.Core.List.{[], _∷_, _++_}
 use native.Mathlib.Nat.{add-comm, add-zero, div-one, mul-one, mod-lt, mul-mod-left, mul-div-mul-right}
 use native.Mathlib.Numerals.{add-one}
 use native.Mathlib.Omega.{arith}

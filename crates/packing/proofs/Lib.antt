@@ -3,4 +3,5 @@ pub mod Bytes
 pub mod Giving
 pub mod Image
 pub mod Numbers
+pub mod Reading
 pub mod Words

@@ -1,15 +1,15 @@
 -- Laws of `wordAt`: a word of a byte list is a digit of the list's number, also where the last byte has filling bits.
 -- Assumes nothing.
-use Prim.Native.Nat.{ℕ, zero, suc, _+_, _-_, _*_, _/_, _%_, _^_, _≤_, _<_}
-use mathlib.Core.Path.{_≡_, refl, sym, ap, ap₂, _∙_, subst}
-use mathlib.Core.List.{List, [], _∷_, _++_}
-use native.Mathlib.Nat.{zero-add, mul-comm, mul-assoc, mul-le-mul-right, mul-add-div-right, mul-add-mod-self-right, mod-lt, mod-eq-of-lt, mul-one, div-lt-iff-lt-mul}
+use Prim.Native.Nat.{ℕ, _+_, _-_, _*_, _/_, _%_, _^_, _≤_, _<_}
+use mathlib.Core.Path.{_≡_, sym, ap, ap₂, _∙_, subst}
+use mathlib.Core.List.{List, _++_}
+use native.Mathlib.Nat.{zero-add, mul-comm, mul-le-mul-right, mul-add-div-right, mul-add-mod-self-right, mod-lt}
 use native.Mathlib.Omega.{arith}
 use lib.ListN.{getD, length, take, List·getD-append}
-use lib.Pow.{pow-pos, pow-add, shl-lt, shl-shr, shr-lt, shr-shr}
-use Rattle.packing.specs.Packing.{packed, toBytes, byteCount, fillBits, packedBytes, bytesValue, Bytes, firstByte, lastByte, spanBytes, bitsBehind, wordAt}
-use Rattle.packing.proofs.Numbers.{packed-lt, packed-ext, packed-add, packed-front, packed-digit, packed-unique}
-use Rattle.packing.proofs.Bytes.{length-toBytes, bytes-toBytes, value-lt, value-toBytes-exact, toBytes-value}
+use lib.Seq.{getD-take}
+use lib.Pow.{pow-pos, pow-add, shr-shr}
+use Rattle.packing.specs.Packing.{byteCount, fillBits, bytesValue, Bytes, firstByte, lastByte, spanBytes, bitsBehind, wordAt}
+use Rattle.packing.proofs.Numbers.{packed-ext, packed-add, packed-front}
 
 -- bits from x + w on above do not reach the w bits from k on
 cut : (p q x w k : ℕ) → (p * 2 ^ (x + w + k) + q) / 2 ^ k % 2 ^ w ≡ q / 2 ^ k % 2 ^ w
@@ -97,3 +97,21 @@ span-within w n j one l = omega (arith, word-within w n j l)
 -- and its first is not behind its last
 pub span-ordered : (w j : ℕ) → 1 ≤ w → firstByte w j ≤ lastByte w j
 span-ordered w j one = omega arith
+
+-- words that fill their bytes
+pub count-exact : (w n L : ℕ) → n * w ≡ 8 * L → byteCount w n ≡ L
+count-exact w n L e = omega arith
+
+pub fill-none : (w n L : ℕ) → n * w ≡ 8 * L → fillBits w n ≡ 0
+fill-none w n L e = omega arith
+
+-- words that L bytes hold take at most L bytes
+pub count-le : (w n L : ℕ) → n * w ≤ 8 * L → byteCount w n ≤ L
+count-le w n L h = omega arith
+
+-- what follows n bytes does not matter to a word within them
+pub word-take : (w n : ℕ) (s : List ℕ) (j : ℕ) → 1 ≤ w → j * w + w ≤ 8 * n → wordAt w (take n s) j ≡ wordAt w s j
+word-take w n s j one within = word-local w (take n s) s j one (λ i a b. getD-take n s i 0 (omega arith))
+
+pub word-append : (w : ℕ) (s t : List ℕ) (j : ℕ) → 1 ≤ w → j * w + w ≤ 8 * length s → wordAt w (s ++ t) j ≡ wordAt w s j
+word-append w s t j one within = word-local w (s ++ t) s j one (λ i a b. List·getD-append s t 0 i (omega arith))
