@@ -12,12 +12,6 @@ use Rattle.quotient.specs.Quotient.{roundedUp}
 use Rattle.building.proofs.Filling.{Filling, start, give, take, finish, finish-part, has-room, part-has-room, kept, joined-fits}
 use Rattle.building.proofs.fill.Statement.{statement}
 use Rattle.building.proofs.fill.Tie as tie
-use Rattle.building.proofs.fill.Reads as reads
-use Rattle.building.proofs.fill.Lts as lts
-use Rattle.bits.proofs.high.Reads as high-reads
-use Rattle.bits.proofs.low.Reads as low-reads
-use Rattle.building.proofs.joined.Reads as joined-reads
-use Rattle.quotient.proofs.rounded_up.Reads as rounded-up-reads
 
 -- the words that are written
 abbrev words : ℕ → ℕ → ℕ → ℕ → ℕ
