@@ -1,0 +1,124 @@
+-- The laws of the nodes, of their words and of decoding, at every k.
+-- Assumes nothing.
+use mathlib.Core.Path.{_≡_, refl, sym, ap, _∙_}
+use mathlib.Core.Bool.{Bool, true, false, cond, not, _&&_, and-eq-true-iff}
+use Prim.Native.Nat.{ℕ, zero, suc, _+_, _-_, _*_, _%_, _^_, _≤_, _<_}
+use native.Mathlib.Nat.{mod-lt, lt-of-not-le, zero-mul}
+use native.Mathlib.Omega.{arith}
+use lib.Dec.{ltb, eqb}
+use lib.Pow.{pow-pos}
+use borrow.Author.Tests.{eq-eqb, ne-eqb, eqb-true, ltb-true}
+use Rattle.precision.specs.Precision.{wordWidth, inRange}
+use Rattle.quotient.specs.Quotient.{roundedUp, roundsUp}
+use Rattle.quotient.proofs.Laws.{reaches, antitone}
+use Rattle.nodes.specs.Nodes.{node, storedWord, decodeBelow, decode, hasWord, isRight, judged}
+use Rattle.nodes.proofs.Laws as laws
+use Rattle.nodes.proofs.Laws.{nodeAt}
+use Rattle.nodes.proofs.Powers.{numerator, wide, double, step, step-wide}
+
+or-zero : (b : Bool) (x : ℕ) → (b ≡ true → 0 < x) → eqb (cond b x 0) 0 ≡ not b
+or-zero true x h = ne-eqb x 0 (λ e. omega (arith, e, h refl))
+or-zero false x h = refl
+
+module _ (k : ℕ) where
+  -- node j over plain numbers
+  pub node-at : (j : ℕ) → node k j ≡ nodeAt (2 ^ (2 * k + 2)) (2 ^ k) j
+  node-at j = ap (λ (M : ℕ). roundedUp M (2 ^ k + j)) (numerator k 2)
+
+  -- the double of the leading one
+  pub lead-double : 2 * 2 ^ (2 * k + 2) ≡ 2 ^ (2 * k + 3)
+  lead-double = sym (double (2 * k + 2)) ∙ ap (λ (n : ℕ). 2 ^ n) {x = 2 * k + 2 + 1} {y = 2 * k + 3} (omega arith)
+
+  -- node 0 is 2^(2k+3)
+  pub node-first : node k 0 ≡ 2 ^ (2 * k + 3)
+  node-first = node-at 0 ∙ laws.first (2 ^ (2 * k + 2)) (2 ^ k) (pow-pos k) (wide k 2 (omega arith)) ∙ lead-double
+
+  -- node 2^k is 2^(2k+2)
+  pub node-last : node k (2 ^ k) ≡ 2 ^ (2 * k + 2)
+  node-last = node-at (2 ^ k) ∙ laws.last (2 ^ (2 * k + 2)) (2 ^ k) (pow-pos k) (wide k 2 (omega arith))
+
+  -- a node before node 2^k is above 2^(2k+2)
+  pub node-above : (j : ℕ) → j < 2 ^ k → 2 ^ (2 * k + 2) < node k j
+  node-above j h = rw node-at (laws.above (2 ^ (2 * k + 2)) (2 ^ k) (pow-pos k) (wide k 2 (omega arith)) j h)
+
+  -- a node after node 0 is below 2^(2k+3)
+  pub node-below : (j : ℕ) → 0 < j → node k j < 2 ^ (2 * k + 3)
+  node-below j h =
+      rw (node-at, ← lead-double) (laws.below (2 ^ (2 * k + 2)) (2 ^ k) (pow-pos k) (wide k 2 (omega arith)) j h)
+
+  -- each node is below the one before it
+  pub node-falls : (j : ℕ) → j < 2 ^ k → node k (j + 1) < node k j
+  node-falls j h =
+      rw (node-at j, node-at (j + 1)) (laws.falls (2 ^ (2 * k + 2)) (2 ^ k) (pow-pos k) (wide k 2 (omega arith)) j h)
+
+  -- a later node is no greater
+  pub node-ordered : {i j : ℕ} → i ≤ j → node k j ≤ node k i
+  node-ordered {i} {j} h = antitone (2 ^ (3 * k + 3)) {i = 2 ^ k + i} {i' = 2 ^ k + j} (omega (arith, pow-pos k)) (omega arith)
+
+  -- neighbours differ by less than 2^(k+3) (document 002, Lemma 1)
+  pub node-near : (j : ℕ) → node k j < node k (j + 1) + 2 ^ (k + 3)
+  node-near j =
+      rw (node-at j, node-at (j + 1))
+      (laws.near (2 ^ (2 * k + 2)) (2 ^ k) (pow-pos k) (wide k 2 (omega arith)) (2 ^ (k + 3)) (step k 2) (step-wide k 2) j)
+
+  -- no node is 0
+  pub node-positive : (j : ℕ) → 0 < node k j
+  node-positive j =
+      lt-of-not-le (λ (n : node k j ≤ 0).
+      let z : node k j ≡ 0 = omega arith in
+      omega (arith, pow-pos (3 * k + 3), zero-mul (2 ^ k + j), rw z at (reaches (2 ^ (3 * k + 3)) (2 ^ k + j) (omega (arith, pow-pos k)))))
+
+  -- a word has 2k + 2 bits
+  pub stored-word-lt : (j : ℕ) → storedWord k j < 2 ^ wordWidth k
+  stored-word-lt j = mod-lt (node k j) (pow-pos (2 * k + 2))
+
+  -- the word of node 0 is zero
+  pub stored-word-first : storedWord k 0 ≡ 0
+  stored-word-first = rw node-at (laws.word-first (2 ^ (2 * k + 2)) (2 ^ k) (pow-pos k) (wide k 2 (omega arith)))
+
+  -- the word of a node between is what the node has above the leading one
+  pub stored-word-between : (j : ℕ) → 0 < j → j < 2 ^ k → storedWord k j ≡ node k j - 2 ^ (2 * k + 2)
+  stored-word-between j h l =
+      rw node-at (laws.word-between (2 ^ (2 * k + 2)) (2 ^ k) (pow-pos k) (wide k 2 (omega arith)) j h l)
+
+  -- the test by a product alone says whether a word is right
+  pub judge-right : (j word : ℕ) → j < 2 ^ k → word < 2 ^ wordWidth k
+      → roundsUp (2 ^ (3 * k + 3)) (2 ^ k + j) (decodeBelow (2 ^ wordWidth k) j word) ≡ isRight k j word
+  judge-right j word h l =
+      rw (numerator k 2) (laws.judges (2 ^ (2 * k + 2)) (2 ^ k) (pow-pos k) (wide k 2 (omega arith)) j word h l)
+
+  -- a word of more bits is wrong
+  pub long-word-wrong : (j word : ℕ) → 2 ^ wordWidth k ≤ word → isRight k j word ≡ false
+  long-word-wrong j word h = ne-eqb word (storedWord k j) (λ e. omega (arith, e, stored-word-lt j))
+
+  -- node 2^k needs no word
+  pub decode-last : (word : ℕ) → decode k (2 ^ k) word ≡ node k (2 ^ k)
+  decode-last word = rw (eq-eqb (2 ^ k) (2 ^ k) refl) (sym node-last)
+
+  -- before node 2^k a word decodes below the leading one
+  pub decode-before : (j word : ℕ) → j < 2 ^ k → decode k j word ≡ decodeBelow (2 ^ wordWidth k) j word
+  decode-before j word h = rw (ne-eqb j (2 ^ k) (λ e. omega (arith, e)))
+
+  -- a right word decodes to the node
+  pub decode-right : (j word : ℕ) → j < 2 ^ k → isRight k j word ≡ true → decode k j word ≡ node k j
+  decode-right j word h t =
+      decode-before j word h
+      ∙ laws.right-decodes (2 ^ (2 * k + 2)) (2 ^ k) (pow-pos k) (wide k 2 (omega arith)) j word h
+      (eqb-true word (storedWord k j) t ∙ ap (λ (c : ℕ). c % 2 ^ (2 * k + 2)) (node-at j))
+      ∙ sym (node-at j)
+
+  -- a right word where there is one decodes to the node
+  decode-judged : (j word : ℕ) → (hasWord k j && isRight k j word) ≡ true → decode k j word ≡ node k j
+  decode-judged j word t =
+      let both = and-eq-true-iff (hasWord k j) (isRight k j word) .0 t in
+      let has = and-eq-true-iff (inRange k) (ltb j (2 ^ k)) .0 (both .0) in
+      decode-right j word (ltb-true j (2 ^ k) (has .1)) (both .1)
+
+  -- a right word is judged to be the node
+  pub judged-right : (j word : ℕ) → (hasWord k j && isRight k j word) ≡ true → judged k j word ≡ node k j
+  judged-right j word t = rw t (decode-judged j word t)
+
+  -- and any other is judged to be 0, which no node is
+  pub judged-zero : (j word : ℕ) → eqb (judged k j word) 0 ≡ not (hasWord k j && isRight k j word)
+  judged-zero j word =
+      or-zero (hasWord k j && isRight k j word) (decode k j word) (λ t. rw (decode-judged j word t) (node-positive j))
