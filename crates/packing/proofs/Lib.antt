@@ -1,3 +1,6 @@
+pub mod Bits
 pub mod Bytes
 pub mod Giving
+pub mod Image
 pub mod Numbers
+pub mod Words
