@@ -4,7 +4,7 @@
 use mathlib.Core.Path.{_≡_, refl, sym, ap, _∙_}
 use mathlib.Core.Bool.{Bool, true, false}
 use Prim.Native.Nat.{ℕ, zero, suc, _+_, _-_, _*_, _%_, _≤_, _<_}
-use native.Mathlib.Nat.{zero-lt-suc, not-suc-le-zero, add-assoc, mul-le-mul, mul-le-mul-left, mul-le-mul-right, mod-lt, mod-eq-of-lt, mod-eq-sub-mod, mul-mod-left, add-mod-left, lt-of-not-le}
+use native.Mathlib.Nat.{le-refl, zero-lt-suc, not-suc-le-zero, add-assoc, mul-le-mul, mul-le-mul-left, mul-le-mul-right, mod-lt, mod-eq-of-lt, mod-eq-sub-mod, mul-mod-left, add-mod-left, lt-of-not-le}
 use native.Mathlib.Omega.{arith}
 use lib.Dec.{eqb}
 use borrow.Author.Tests.{eq-eqb, ne-eqb, eqb-true}
@@ -96,6 +96,12 @@ module _ (H K : ℕ) (pos : 0 < K) (wide : 2 * K ≤ H + 1) where
   decode-rest zero zero h = mul-mod-left 2 H
   decode-rest zero (suc w) h = rw (ne-eqb (suc w) 0 (λ e. omega (arith, e))) (add-mod-left H (suc w) ∙ mod-eq-of-lt h)
   decode-rest (suc j) word h = rw (ne-eqb (suc j) 0 (λ e. omega (arith, e))) (add-mod-left H word ∙ mod-eq-of-lt h)
+
+  -- and to at most twice the leading one
+  pub decode-le : (j word : ℕ) → word < H → decodeBelow H j word ≤ 2 * H
+  decode-le zero zero h = le-refl (2 * H)
+  decode-le zero (suc w) h = rw (ne-eqb (suc w) 0 (λ e. omega (arith, e))) (omega arith)
+  decode-le (suc j) word h = rw (ne-eqb (suc j) 0 (λ e. omega (arith, e))) (omega arith)
 
   -- the word of a node decodes to the node
   pub decodes : (j : ℕ) → j < K → decodeBelow H j (nodeAt H K j % H) ≡ nodeAt H K j
