@@ -16,6 +16,18 @@ use Rattle.nodes.specs.Nodes.{decodeBelow}
 abbrev pub nodeAt : ℕ → ℕ → ℕ → ℕ
 nodeAt H K j = roundedUp (2 * H * K) (K + j)
 
+-- a word decodes to a value that has the word as its rest
+pub decode-rest : (H j word : ℕ) → word < H → decodeBelow H j word % H ≡ word
+decode-rest H zero zero h = mul-mod-left 2 H
+decode-rest H zero (suc w) h = rw (ne-eqb (suc w) 0 (λ e. omega (arith, e))) (add-mod-left H (suc w) ∙ mod-eq-of-lt h)
+decode-rest H (suc j) word h = rw (ne-eqb (suc j) 0 (λ e. omega (arith, e))) (add-mod-left H word ∙ mod-eq-of-lt h)
+
+-- and to at most twice the leading one
+pub decode-le : (H j word : ℕ) → word < H → decodeBelow H j word ≤ 2 * H
+decode-le H zero zero h = le-refl (2 * H)
+decode-le H zero (suc w) h = rw (ne-eqb (suc w) 0 (λ e. omega (arith, e))) (omega arith)
+decode-le H (suc j) word h = rw (ne-eqb (suc j) 0 (λ e. omega (arith, e))) (omega arith)
+
 near-core : (D K i c c' M : ℕ) → K < D → K ≤ i → M ≡ D * K * K → c * i < M + i → M ≤ c' * (i + 1) → c' * (i + 1) < M + (i + 1) → c < c' + D
 near-core zero K i c c' M kd ki m h l l' = absurd (not-suc-le-zero kd)
 near-core (suc E) K i c c' M kd ki m h l l' =
@@ -91,18 +103,6 @@ module _ (H K : ℕ) (pos : 0 < K) (wide : 2 * K ≤ H + 1) where
       let b : nodeAt H K j < 2 * H = below j h in
       mod-eq-sub-mod (omega arith) ∙ mod-eq-of-lt (omega arith)
 
-  -- a word decodes to a value that has the word as its rest
-  pub decode-rest : (j word : ℕ) → word < H → decodeBelow H j word % H ≡ word
-  decode-rest zero zero h = mul-mod-left 2 H
-  decode-rest zero (suc w) h = rw (ne-eqb (suc w) 0 (λ e. omega (arith, e))) (add-mod-left H (suc w) ∙ mod-eq-of-lt h)
-  decode-rest (suc j) word h = rw (ne-eqb (suc j) 0 (λ e. omega (arith, e))) (add-mod-left H word ∙ mod-eq-of-lt h)
-
-  -- and to at most twice the leading one
-  pub decode-le : (j word : ℕ) → word < H → decodeBelow H j word ≤ 2 * H
-  decode-le zero zero h = le-refl (2 * H)
-  decode-le zero (suc w) h = rw (ne-eqb (suc w) 0 (λ e. omega (arith, e))) (omega arith)
-  decode-le (suc j) word h = rw (ne-eqb (suc j) 0 (λ e. omega (arith, e))) (omega arith)
-
   -- the word of a node decodes to the node
   pub decodes : (j : ℕ) → j < K → decodeBelow H j (nodeAt H K j % H) ≡ nodeAt H K j
   decodes zero h = rw word-first (sym first)
@@ -119,7 +119,7 @@ module _ (H K : ℕ) (pos : 0 < K) (wide : 2 * K ≤ H + 1) where
   judges j word h l =
       rounds-up (2 * H * K) (K + j) (omega arith) (decodeBelow H j word)
       ∙ same _ _
-      (λ t. eq-eqb word (nodeAt H K j % H) (sym (decode-rest j word l) ∙ ap (λ (x : ℕ). x % H) (eqb-true _ _ t)))
+      (λ t. eq-eqb word (nodeAt H K j % H) (sym (decode-rest H j word l) ∙ ap (λ (x : ℕ). x % H) (eqb-true _ _ t)))
       (λ t. eq-eqb (decodeBelow H j word) (nodeAt H K j) (right-decodes j word h (eqb-true word (nodeAt H K j % H) t)))
 
   -- neighbours differ by less than D, where D × K is twice the leading one (document 002, Lemma 1)

@@ -32,7 +32,7 @@ returns c =
 returns-2 : tie.Need-returns-2
 returns-2 c =
     let a = c .before .before .before .before .args in
-    sym (node-past (a .k .0) (a .j) (rw (c .before .words .ensures) at (c .if2 .taken)))
+    sym (node-past (a .k .0) (a .j) (omega (arith, c .before .words .ensures)))
 
 numerator-requires : tie.Need-numerator-requires
 numerator-requires c κs = small (c .before .before)
@@ -48,7 +48,7 @@ returns-3 c =
     let a = c .before .before .before .before .before .before .args in
     let words = c .before .before .before .words .ensures in
     rw (c .rounded-up .ensures, c .before .numerator .ensures, words)
-    (sym (node-there (a .k .0) (ranged (c .before .before .before .before)) (a .j) (rw words at (c .before .before .if2 .left))))
+    (sym (node-there (a .k .0) (ranged (c .before .before .before .before)) (a .j) (omega (arith, words))))
 
 pub value-spec : {M : Type 1} → statement M
 value-spec =

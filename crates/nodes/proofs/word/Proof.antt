@@ -41,11 +41,11 @@ returns c =
 returns-2 : tie.Need-returns-2
 returns-2 c =
     let a = c .before .before .before .before .args in
-    sym (word-past (a .k .0) (a .j) (rw (c .before .words .ensures) at (c .if2 .taken)))
+    sym (word-past (a .k .0) (a .j) (omega (arith, c .before .words .ensures)))
 
 -- node j has a word
 before-last : (c : tie.Else2) → c .before .before .before .before .args .j < 2 ^ c .before .before .before .before .args .k .0
-before-last c = rw (c .before .words .ensures) at (c .if2 .left)
+before-last c = omega (arith, c .before .words .ensures)
 
 returns-3 : tie.Need-returns-3
 returns-3 c =
