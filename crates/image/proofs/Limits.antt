@@ -3,13 +3,13 @@
 use mathlib.Core.Path.{_≡_, refl, sym, _∙_, ap}
 use mathlib.Core.Bool.{Bool, true, false, cond, not, _||_}
 use mathlib.Core.List.{List, [], _∷_}
-use Prim.Native.Nat.{ℕ, _≤_}
+use Prim.Native.Nat.{ℕ, _≤_, _^_}
 use native.Mathlib.Omega.{arith}
 use lib.Dec.{ltb}
 use lib.ListN.{length}
 use borrow.Author.Tests.{ltb-false}
-use Rattle.precision.specs.Precision.{inRange, imageLength}
-use Rattle.precision.proofs.Range.{in-range}
+use Rattle.precision.specs.Precision.{inRange, imageLength, orderedWords}
+use Rattle.precision.proofs.Range.{in-range, ordered-words}
 use Rattle.answers.specs.Refusal.{Refusal, Outcome, outcome}
 use Rattle.image.specs.Refusals.{precisionRefusal, bufferRefusal, brokenLimit}
 use Rattle.image.specs.Calls.{noImage}
@@ -23,6 +23,7 @@ pub record Kept (k : ℕ) (s : List ℕ) : Type 0 where
   pub low : 1 ≤ k
   pub high : k ≤ 12
   pub long : imageLength k ≤ length s
+  pub words : orderedWords k ≡ 2 ^ k
 
 -- by the tests of the two limits
 abbrev numberOf : Bool → Bool → ℕ
@@ -69,6 +70,7 @@ module _ (k : ℕ) (s : List ℕ) where
         low = in-range k (e .0) .0;
         high = in-range k (e .0) .1;
         long = ltb-false (length s) (imageLength k) (e .1);
+        words = ordered-words k (e .0);
       }
 
   pub limit-image : brokenLimit k (length s) ≡ 0 → noImage k s ≡ false
