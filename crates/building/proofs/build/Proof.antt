@@ -78,14 +78,15 @@ returns-2 c =
     let top : 3 * k + 3 < 64 = omega (arith, ok .high) in
     let made = c .before .before .before .before .power .result in
     let count = c .before .before .before .before .before .before .word-count in
-    let width = c .before .before .before .before .before .word-width in
-    (ap done (sym (limit-passes k s [] 0 (limit at))),
-    c .before .before .fill .ensures
-    ∙ ap (λ (w : ℕ). filled s w made (count .result)) (width .ensures)
-    ∙ ap (filled s (2 * k + 2) made) (count .ensures ∙ ok .words)
-    ∙ ap (λ (M : ℕ). filled s (2 * k + 2) M (2 ^ k)) (c .before .before .before .before .power .ensures ∙ power-fits (3 * k + 3) top)
-    ∙ ap (λ (n : ℕ). image k ++ drop n s) (byte-count k (ok .low))
-    ∙ ap (λ (b : Bool). cond b s (builtBuffer k s)) (sym (limit-image k s (limit at))))
+    let width = c .before .before .before .before .before .word-width in (
+      ap done (sym (limit-passes k s [] 0 (limit at))),
+      c .before .before .fill .ensures
+          ∙ ap (λ (w : ℕ). filled s w made (count .result)) (width .ensures)
+          ∙ ap (filled s (2 * k + 2) made) (count .ensures ∙ ok .words)
+          ∙ ap (λ (M : ℕ). filled s (2 * k + 2) M (2 ^ k)) (c .before .before .before .before .power .ensures ∙ power-fits (3 * k + 3) top)
+          ∙ ap (λ (n : ℕ). image k ++ drop n s) (byte-count k (ok .low))
+          ∙ ap (λ (b : Bool). cond b s (builtBuffer k s)) (sym (limit-image k s (limit at))),
+    )
 
 pub build-spec : {M : Type 1} → statement M
 build-spec =
