@@ -1,6 +1,6 @@
 // Words of any width packed into bytes, and read back one at a time.
 ghost use mathlib.Core.Path.{_≡_};
-ghost use Prim.Native.Nat.{_-_, _^_, _/_, _%_, _≤_, _<_};
+ghost use Prim.Native.Nat.{_-_, _≤_};
 ghost use lib.ListN.{length};
 ghost use Rattle.packing.specs.Packing.{bytesValue, wordRead};
 
@@ -19,22 +19,6 @@ fn gather(s: &[u8], first: usize, past: usize) -> u64
         at += 1;
     }
     value
-}
-
-// x without its lowest `count` bits.
-fn shifted_down(x: u64, count: u32) -> u64
-    requires { ⌜ count < 64 ⌝ }
-    ensures { λ r. ⌜ r ≡ x / 2 ^ count ⌝ }
-{
-    x >> count
-}
-
-// The lowest `count` bits of x.
-fn low_bits(x: u64, count: u32) -> u64
-    requires { ⌜ count < 64 ⌝ }
-    ensures { λ r. ⌜ r ≡ x % 2 ^ count ⌝ }
-{
-    x - ((x >> count) << count)
 }
 
 // The word at j of a list of words of `width` bits, 0 where the width is 0 or above WIDEST or the word reaches past the bytes.
@@ -56,5 +40,5 @@ pub fn word(s: &[u8], width: u32, j: u32) -> u64
     let first = bit / 8;
     let behind = 8 * past - end;
     let value = gather(s, first as usize, past as usize);
-    low_bits(shifted_down(value, behind as u32), width)
+    bits::low(bits::high(value, behind as u32), width)
 }

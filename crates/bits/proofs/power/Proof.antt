@@ -1,0 +1,20 @@
+-- `bits::power` meets its contract: a shifted one.
+-- Assumes nothing.
+use native.Mathlib.Nat.{one-mul, mod-eq-of-lt}
+use lib.Pow.{pow-lt}
+use borrow.Author.Tests.{lt-ltb, le-ltb}
+use borrow.Author.Needs.{needs}
+use Rattle.bits.proofs.power.Statement.{statement}
+use Rattle.bits.proofs.power.Tie as tie
+
+returns : tie.Need-returns
+returns c = simp (le-ltb _ _ (c .if1 .taken))
+
+shl-result : tie.Need-shl-result
+shl-result c = search needs
+
+returns-2 : tie.Need-returns-2
+returns-2 c = simp (lt-ltb _ _ (c .if1 .left)) (simp one-mul (mod-eq-of-lt (pow-lt (c .if1 .left))))
+
+pub power-spec : {M : Type 1} → statement M
+power-spec = tie.close (tie.spec returns shl-result returns-2)

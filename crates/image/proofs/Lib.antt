@@ -1,0 +1,4 @@
+pub mod Judging
+pub mod Laws
+pub mod Limits
+pub mod Lowest
