@@ -117,45 +117,32 @@ ROOM = 16384  # bytes, of which the front is lent
 SCRIPT = 65536  # bytes of the script that are read
 
 
-def hexes(data):
-    return " ".join(format(byte, "02X") for byte in data)
-
-
 def rows(data):
-    """Up to 32 bytes stand on the line; more stand in lines of 32 below it."""
-    if len(data) <= 32:
-        return "".join(" " + format(byte, "02X") for byte in data)
-    return "".join("\n  " + hexes(data[at:at + 32]) for at in range(0, len(data), 32))
+    """Bytes in hex, each after a space, 32 to a line."""
+    lines = [data[at:at + 32] for at in range(0, len(data), 32)]
+    return "\n ".join("".join(f" {byte:02X}" for byte in line) for line in lines)
 
 
 def answered(answer):
     return "number {} place {} value {}".format(*answer)
 
 
-def on(buffer):
-    if not buffer:
-        return "no bytes"
-    return hexes(buffer) if len(buffer) <= 8 else f"{len(buffer)} bytes"
-
-
 def folded(values):
-    """One number that depends on each value and on their order; a lone value is left as it is."""
-    total, *rest = values
-    for value in rest:
-        total = (31 * total + value) % 2 ** 32
-    return total
+    """One number that depends on each value and on their order."""
+    return functools.reduce(lambda total, value: (31 * total + value) % 2 ** 32, values, 0)
+
+
+def value_or_0(k, j):
+    """c(j), 0 where there is no such node."""
+    return node(k, j) if in_range(k) and j <= 2 ** k else 0
 
 
 class Cases:
-    """Runs a script as crates/cases/src/main.rt describes it, each command a method, and keeps what is printed."""
+    """Runs a script as crates/cases/src/main.rt describes it: each command is a method, and what it returns is printed."""
 
     def __init__(self):
         self.room = bytes(ROOM)
         self.lent = 0
-        self.lines = []
-
-    def say(self, line):
-        self.lines.append(line)
 
     def buffer(self):
         return self.room[:self.lent]
@@ -164,106 +151,83 @@ class Cases:
         """Bytes at the front of the room."""
         self.room = data + self.room[len(data):]
 
-    # these change the room, and their lines are printed as they stand
-
     def fill(self, byte):
         self.room = bytes([byte]) * ROOM
+        return ""
 
     def up(self):
         self.room = bytes(number % 256 for number in range(ROOM))
+        return ""
 
     def hex(self, *data):
         self.put(bytes(data))
         self.lent = len(data)
+        return ""
 
     def image(self, k):
         self.put(call_build(k, self.room)[1])
         self.lent = LENGTHS[k - 1] if in_range(k) else 0
+        return ""
 
     def xor(self, at, mask):
         self.room = self.room[:at] + bytes([self.room[at] ^ mask]) + self.room[at + 1:]
+        return ""
 
     def length(self, count):
         self.lent = count
-
-    # these are calls
+        return ""
 
     def build(self, k):
-        before = self.buffer()
-        answer, after = call_build(k, before)
+        answer, after = call_build(k, self.buffer())
         self.put(after)
-        if answer[0] == 0 or len(after) <= 32:
-            left = rows(after)
-        else:
-            left = f" bytes folded to {folded([0, *after])}"
-        self.say(f"build k {k} on {on(before)}: {answered(answer)}; leaves{left}")
+        shown = rows(after) if answer[0] == 0 or len(after) <= 32 else f" fold to {folded(after)}"
+        return f": {answered(answer)} bytes{shown}"
 
     def check(self, k):
-        self.say(f"check k {k} on {on(self.buffer())}: {answered(call_check(k, self.buffer()))}")
+        return f": {answered(call_check(k, self.buffer()))}"
 
-    def node(self, k, first, last):
-        for j in range(first, max(first, last) + 1):
-            self.say(f"node k {k} on {on(self.buffer())} j {j}: {answered(call_node(k, self.buffer(), j))}")
-
-    def word(self, k, first, last):
-        for j in range(first, max(first, last) + 1):
-            part = call_word_bytes(k, self.buffer(), j)
-            self.say(f"word_bytes k {k} on {on(self.buffer())} j {j}: {hexes(part) if part else 'none'}")
-
-    def gather(self, k, last):
-        answers = [call_node(k, self.buffer(), j) for j in range(last + 1)]
-        served = sum(1 for number, _, _ in answers if number == 0)
-        total = folded(value for _, _, value in answers)
-        by_rule = folded(value_or_0(k, j) for j in range(last + 1))
-        self.say(f"nodes k {k} on {on(self.buffer())} j 0 to {last}: served {served} values folded to {total}, by the rule {by_rule}")
-
-    def show(self):
-        self.say(f"bytes{rows(self.buffer())}")
-
-    def table(self, j):
-        """A row of Table 1: the number that the table units stand for, in base 2."""
-        value = Fraction(call_node(2, self.buffer(), j)[2], 2 ** 7)
-        whole = math.floor(value)
-        self.say(f"1.{j:02b} xxxxx {whole}.{int((value - whole) * 2 ** 7):07b}")
-
-    def rule(self, k, first, last):
-        for j in range(first, max(first, last) + 1):
-            word = int(stored(k, j), 2) if in_range(k) and j < 2 ** k else 0
-            self.say(f"rule k {k} j {j}: value {value_or_0(k, j)} word {word}")
+    def gather(self, k, past):
+        answers = [call_node(k, self.buffer(), j) for j in range(past)]
+        return f": fold to {folded(part for number, _, value in answers for part in (number, value))}"
 
     def precision(self, k):
-        place = "in range" if in_range(k) else "out of range"
+        place = "in" if in_range(k) else "not in"
         length = Fraction(2 ** k * width(k), 8) if in_range(k) else 0
-        self.say(f"precision {k}: {place} width {width(k)} length {length}")
+        return f": {place} {LEAST} to {GREATEST}, width {width(k)} length {length} of at most {max(LENGTHS)}"
 
-    def most(self):
-        self.say(f"least {LEAST} greatest {GREATEST} longest image {max(LENGTHS)}")
+    def each(self, first, last, answer):
+        """A line for each number from the first to the last, of which there is at least one."""
+        return "".join(f"\n  {j}: {answer(j)}" for j in range(first, max(first, last) + 1))
+
+    def node(self, first, last, k):
+        return self.each(first, last, lambda j: answered(call_node(k, self.buffer(), j)))
+
+    def word(self, first, last, k):
+        def answer(j):
+            part = call_word_bytes(k, self.buffer(), j)
+            return f"{len(part)} bytes{rows(part)}"
+        return self.each(first, last, answer)
+
+    def rule(self, first, last, k):
+        def answer(j):
+            word = int(stored(k, j), 2) if in_range(k) and j < 2 ** k else 0
+            return f"value {value_or_0(k, j)} word {word}"
+        return self.each(first, last, answer)
 
     def eight(self, first, last):
-        for j in range(first, max(first, last) + 1):
-            entry = f", entry {node(8, j)}" if j <= 256 else ""
-            self.say(f"node_8 j {j}: {value_or_0(8, j)}{entry}")
-
-
-def value_or_0(k, j):
-    """c(j), 0 where there is no such node."""
-    return node(k, j) if in_range(k) and j <= 2 ** k else 0
+        return self.each(first, last, lambda j: f"{value_or_0(8, j)}, " + (f"entry {node(8, j)}" if j <= 256 else "no entry"))
 
 
 def cases(script):
-    """What `cases` prints on a script."""
+    """What `cases` prints on a script: each line, and what its command answers."""
     assert len(script) <= SCRIPT, "the program reads no more of a script"
     run = Cases()
+    printed = []
     for line in script.decode("ascii").splitlines():
         word, *rest = line.split(" ")
-        if word.startswith("#"):
-            run.say(line)
-            continue
-        base = 16 if word == "hex" else 10
-        if word in ("fill", "up", "hex", "image", "xor", "length"):
-            run.say(line)
-        getattr(run, word)(*[int(number, base) for number in rest])
-    return "".join(line + "\n" for line in run.lines)
+        numbers = [] if word.startswith("#") else [int(text, 16 if word == "hex" else 10) for text in rest]
+        printed.append(line + ("" if word.startswith("#") else getattr(run, word)(*numbers)) + "\n")
+    return "".join(printed)
 
 
 def main():

@@ -1,9 +1,9 @@
-// Printing through a buffer: bytes, decimal numbers, bytes in hex. A full buffer is written out and filled anew.
+// Printing through a page of bytes: a full page is written out and filled anew.
 
 // The bytes that are gathered before they are written.
-pub type Page = [u8; 4096];
+pub(crate) type Page = [u8; 4096];
 
-// Puts one byte; where the page is full, it is written first.
+// Puts one byte.
 pub(crate) fn put(out: &mut Page, at: &mut usize, b: u8) {
     let i = *at;
     if i < 4096 {
@@ -35,16 +35,12 @@ pub(crate) fn text(out: &mut Page, at: &mut usize, s: &[u8]) {
     }
 }
 
-pub(crate) fn number(out: &mut Page, at: &mut usize, n: u64) {
+// A text, and a number after it in decimal.
+pub(crate) fn labelled(out: &mut Page, at: &mut usize, s: &[u8], n: u64) {
     let mut digits = [0u8; 20];
     let k = io::decimal(n, &mut digits);
-    text(out, at, &digits[..k]);
-}
-
-// A text, and a number after it.
-pub(crate) fn labelled(out: &mut Page, at: &mut usize, s: &[u8], n: u64) {
     text(out, at, s);
-    number(out, at, n);
+    text(out, at, &digits[..k]);
 }
 
 fn hex_digit(d: u8) -> u8 {
@@ -57,27 +53,22 @@ fn hex_digit(d: u8) -> u8 {
     63
 }
 
-// A byte as two hex digits.
-pub(crate) fn hex(out: &mut Page, at: &mut usize, b: u8) {
-    put(out, at, hex_digit(b / 16));
-    put(out, at, hex_digit(b % 16));
-}
-
-// Bytes in hex, a space before each; above 32 bytes each 32 of them begin a new line.
+// Bytes in hex, a space before each; after 32 of them a new line begins.
 pub(crate) fn bytes(out: &mut Page, at: &mut usize, s: &[u8]) {
     let mut i = 0;
     while i < s.len() {
-        space(out, at, s.len(), i);
-        hex(out, at, s[i]);
+        byte(out, at, i, s[i]);
         i += 1;
     }
 }
 
-fn space(out: &mut Page, at: &mut usize, length: usize, i: usize) {
-    if 32 < length {
-        if i % 32 == 0 {
+fn byte(out: &mut Page, at: &mut usize, i: usize, b: u8) {
+    if i % 32 == 0 {
+        if 0 < i {
             text(out, at, b"\n ");
         }
     }
     put(out, at, 32);
+    put(out, at, hex_digit(b / 16));
+    put(out, at, hex_digit(b % 16));
 }

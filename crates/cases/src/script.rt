@@ -1,15 +1,4 @@
-// Reading the script: a command to a line, by its first letter, with numbers after it.
-
-// Whether a line begins at i.
-pub(crate) fn begins(s: &[u8], i: usize) -> bool {
-    if i == 0 {
-        return true;
-    }
-    if s.len() < i {
-        return false;
-    }
-    s[i - 1] == 10
-}
+// Reading the script: a command to a line, then numbers, a space before each.
 
 // The byte at i, a line feed where there is none.
 pub(crate) fn at(s: &[u8], i: usize) -> u8 {
@@ -31,122 +20,76 @@ pub(crate) fn end(s: &[u8], i: usize) -> usize {
     e
 }
 
-fn is_digit(b: u8) -> bool {
-    if b < 48 {
-        return false;
+// The worth of a digit, decimal or hex, and 16 for another byte.
+fn worth(b: u8) -> u8 {
+    match b {
+        48..=57 => b - 48,
+        65..=70 => b - 55,
+        _ => 16,
     }
-    b < 58
 }
 
-// v with a digit after it; a byte that is no digit changes nothing, and so does one that makes v too long.
-fn more(v: u64, b: u8) -> u64 {
-    if b < 48 {
-        return v;
-    }
-    if 57 < b {
-        return v;
-    }
+// v with a digit after it, or as it is where that may be too long.
+fn more(v: u64, digit: u8) -> u64 {
     if v < 1000000000000000000 {
-        return v * 10 + (b - 48) as u64;
+        return v * 10 + digit as u64;
     }
     v
 }
 
-// The number whose first digit stands at i.
+// The number whose first digit stands at i, 0 where none does.
 fn number_at(s: &[u8], i: usize) -> u64 {
     let mut v: u64 = 0;
     let mut e = i;
     while e < s.len() {
-        if !is_digit(s[e]) {
+        let digit = worth(s[e]);
+        if 9 < digit {
             return v;
         }
-        v = more(v, s[e]);
+        v = more(v, digit);
         e += 1;
     }
     v
 }
 
-// The number in the line at i that has `which` numbers before it, 0 where there is none.
+// The number of the line at i that has `which` numbers before it, 0 where there is none.
 pub(crate) fn argument(s: &[u8], i: usize, which: u32) -> u64 {
+    let past = end(s, i);
     let mut left = which;
-    let mut inside = false;
     let mut e = i;
-    while e < s.len() {
-        if s[e] == 10 {
-            return 0;
-        }
-        let digit = is_digit(s[e]);
-        if starts(digit, inside) {
+    while e < past {
+        if at(s, e) == 32 {
             if left == 0 {
-                return number_at(s, e);
+                return number_at(s, e + 1);
             }
             left -= 1;
         }
-        inside = digit;
         e += 1;
     }
     0
 }
 
-fn starts(digit: bool, inside: bool) -> bool {
-    if inside {
-        return false;
-    }
-    digit
-}
-
-// A number as a precision or a node number, which have 32 bits.
-pub(crate) fn narrow(v: u64) -> u32 {
-    (v % 4294967296) as u32
-}
-
-// A number as a byte.
-pub(crate) fn byte(v: u64) -> u8 {
-    (v % 256) as u8
-}
-
-// The worth of a hex digit, 16 for another byte.
-fn worth(b: u8) -> u8 {
-    if b < 48 {
-        return 16;
-    }
-    if b < 58 {
-        return b - 48;
-    }
-    if b < 65 {
-        return 16;
-    }
-    if b < 71 {
-        return b - 55;
-    }
-    16
-}
-
-// The byte of two hex digits.
-fn pair(high: u8, low: u8) -> u8 {
-    (worth(high) % 16) * 16 + worth(low) % 16
-}
-
-// Puts the byte whose digits begin at e, if they begin there, and answers how many bytes are put.
+// The byte whose two hex digits begin after a space at e; n is the place it goes to. Answers how many bytes stand there then.
 fn hex_at(s: &[u8], e: usize, room: &mut [u8], n: usize) -> usize {
-    if at(s, e) != 32 {
-        return n;
-    }
     if room.len() <= n {
         return n;
     }
     if s.len() <= e {
         return n;
     }
-    room[n] = pair_at(s, e + 1);
+    if s[e] != 32 {
+        return n;
+    }
+    room[n] = pair(s, e);
     n + 1
 }
 
-fn pair_at(s: &[u8], e: usize) -> u8 {
-    if s.len() <= e {
+// The byte of the two hex digits after e.
+fn pair(s: &[u8], e: usize) -> u8 {
+    if 65536 < e {
         return 0;
     }
-    pair(s[e], at(s, e + 1))
+    (worth(at(s, e + 1)) % 16) * 16 + worth(at(s, e + 2)) % 16
 }
 
 // Puts the bytes of a line `hex HH HH ..` at the front, and answers how many there are.

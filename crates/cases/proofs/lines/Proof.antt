@@ -7,16 +7,19 @@ use Rattle.cases.proofs.lines.Statement.{statement}
 use Rattle.cases.proofs.lines.Tie as tie
 
 abbrev Inv-loop : tie.InvT-loop
-Inv-loop out₀ at₀ room₀ s lent₀ i₀ out at room lent i = (i ≤ length s) × (length room ≡ length room₀)
+Inv-loop out₀ at₀ room₀ s lent₀ before₀ i₀ out at room lent before i = (i ≤ length s) × (length room ≡ length room₀)
 
 abbrev μ-loop : tie.MeasureT-loop
-μ-loop out₀ at₀ room₀ s lent₀ i₀ out at room lent i = length s - i
+μ-loop out₀ at₀ room₀ s lent₀ before₀ i₀ out at room lent before i = length s - i
 
 loop-holds : tie.Need-loop-holds Inv-loop μ-loop
 loop-holds c = search needs
 
 step-requires : tie.Need-step-requires Inv-loop μ-loop
 step-requires c κs = search needs
+
+shared-slice-read-before : tie.Need-shared-slice-read-before Inv-loop μ-loop
+shared-slice-read-before c = search needs
 
 add-i : tie.Need-add-i Inv-loop μ-loop
 add-i c = search needs
@@ -41,6 +44,7 @@ lines-spec =
     μ-loop
     loop-holds
     step-requires
+    shared-slice-read-before
     add-i
     loop-less
     loop-again

@@ -14,14 +14,11 @@ abbrev μ-loop : tie.MeasureT-loop
 loop-holds : tie.Need-loop-holds Inv-loop μ-loop
 loop-holds c = search needs
 
-shared-slice-read-wide : tie.Need-shared-slice-read-wide Inv-loop μ-loop
-shared-slice-read-wide c = search needs
+shared-slice-read-fold-byte : tie.Need-shared-slice-read-fold-byte Inv-loop μ-loop
+shared-slice-read-fold-byte c = search needs
 
-wide-requires : tie.Need-wide-requires Inv-loop μ-loop
-wide-requires c κs = search needs
-
-fold-requires : tie.Need-fold-requires Inv-loop μ-loop
-fold-requires c κs = search needs
+fold-byte-requires : tie.Need-fold-byte-requires Inv-loop μ-loop
+fold-byte-requires c κs = search needs
 
 add-i : tie.Need-add-i Inv-loop μ-loop
 add-i c = search needs
@@ -42,9 +39,8 @@ folded-spec =
     Inv-loop
     μ-loop
     loop-holds
-    shared-slice-read-wide
-    wide-requires
-    fold-requires
+    shared-slice-read-fold-byte
+    fold-byte-requires
     add-i
     loop-less
     loop-again

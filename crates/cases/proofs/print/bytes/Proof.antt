@@ -14,14 +14,11 @@ abbrev μ-loop : tie.MeasureT-loop
 loop-holds : tie.Need-loop-holds Inv-loop μ-loop
 loop-holds c = search needs
 
-space-requires : tie.Need-space-requires Inv-loop μ-loop
-space-requires c κs = search needs
+shared-slice-read-byte : tie.Need-shared-slice-read-byte Inv-loop μ-loop
+shared-slice-read-byte c = search needs
 
-shared-slice-read-hex : tie.Need-shared-slice-read-hex Inv-loop μ-loop
-shared-slice-read-hex c = search needs
-
-hex-requires : tie.Need-hex-requires Inv-loop μ-loop
-hex-requires c κs = search needs
+byte-requires : tie.Need-byte-requires Inv-loop μ-loop
+byte-requires c κs = search needs
 
 add-i : tie.Need-add-i Inv-loop μ-loop
 add-i c = search needs
@@ -42,9 +39,8 @@ bytes-spec =
     Inv-loop
     μ-loop
     loop-holds
-    space-requires
-    shared-slice-read-hex
-    hex-requires
+    shared-slice-read-byte
+    byte-requires
     add-i
     loop-less
     loop-again

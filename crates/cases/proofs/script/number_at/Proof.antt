@@ -14,17 +14,14 @@ abbrev μ-loop : tie.MeasureT-loop
 loop-holds : tie.Need-loop-holds Inv-loop μ-loop
 loop-holds c = search needs
 
-shared-slice-read-is-digit : tie.Need-shared-slice-read-is-digit Inv-loop μ-loop
-shared-slice-read-is-digit c = search needs
+shared-slice-read-worth : tie.Need-shared-slice-read-worth Inv-loop μ-loop
+shared-slice-read-worth c = search needs
 
-is-digit-requires : tie.Need-is-digit-requires Inv-loop μ-loop
-is-digit-requires c κs = search needs
+worth-requires : tie.Need-worth-requires Inv-loop μ-loop
+worth-requires c κs = search needs
 
 returns : tie.Need-returns Inv-loop μ-loop
 returns c = search needs
-
-shared-slice-read-more : tie.Need-shared-slice-read-more Inv-loop μ-loop
-shared-slice-read-more c = search needs
 
 more-requires : tie.Need-more-requires Inv-loop μ-loop
 more-requires c κs = search needs
@@ -48,10 +45,9 @@ number-at-spec =
     Inv-loop
     μ-loop
     loop-holds
-    shared-slice-read-is-digit
-    is-digit-requires
+    shared-slice-read-worth
+    worth-requires
     returns
-    shared-slice-read-more
     more-requires
     add-e
     loop-less

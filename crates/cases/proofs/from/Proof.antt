@@ -1,17 +1,17 @@
--- `cases::calls::rules_from` is safe and ends.
+-- `cases::from` is safe and ends.
 use Prim.Native.Nat.{_≤_, _-_}
 use borrow.Author.Needs.{needs}
-use Rattle.cases.proofs.calls.rules_from.Statement.{statement}
-use Rattle.cases.proofs.calls.rules_from.Tie as tie
+use Rattle.cases.proofs.from.Statement.{statement}
+use Rattle.cases.proofs.from.Tie as tie
 
 abbrev Inv-loop : tie.InvT-loop
-Inv-loop out₀ at₀ k first last j₀ out at j = 0 ≤ j
+Inv-loop out₀ at₀ s letter first last k j₀ out at j = 0 ≤ j
 
 abbrev μ-loop : tie.MeasureT-loop
-μ-loop out₀ at₀ k first last j₀ out at j = last - j
+μ-loop out₀ at₀ s letter first last k j₀ out at j = last - j
 
-rule-requires : tie.Need-rule-requires Inv-loop μ-loop
-rule-requires c κs = search needs
+one-requires : tie.Need-one-requires Inv-loop μ-loop
+one-requires c κs = search needs
 
 loop-holds : tie.Need-loop-holds Inv-loop μ-loop
 loop-holds c = search needs
@@ -19,8 +19,8 @@ loop-holds c = search needs
 add-j : tie.Need-add-j Inv-loop μ-loop
 add-j c = search needs
 
-rule-requires-2 : tie.Need-rule-requires-2 Inv-loop μ-loop
-rule-requires-2 c κs = search needs
+one-requires-2 : tie.Need-one-requires-2 Inv-loop μ-loop
+one-requires-2 c κs = search needs
 
 loop-less : tie.Need-loop-less Inv-loop μ-loop
 loop-less c = search needs
@@ -31,16 +31,16 @@ loop-again c = search needs
 returns : tie.Need-returns Inv-loop μ-loop
 returns c = search needs
 
-pub rules-from-spec : {M : Type 1} → statement M
-rules-from-spec =
+pub from-spec : {M : Type 1} → statement M
+from-spec =
     tie.close
     (tie.spec
     Inv-loop
     μ-loop
-    rule-requires
+    one-requires
     loop-holds
     add-j
-    rule-requires-2
+    one-requires-2
     loop-less
     loop-again
     returns)
