@@ -2,30 +2,34 @@
 -- and the whole answers of the calls by cases.
 -- Assumes nothing.
 use mathlib.Core.Path.{_≡_, refl, sym, _∙_, ap}
-use mathlib.Core.Logic.{_↔_, _⊎_, inl, inr, ⊎-elim}
+use mathlib.Core.Logic.{_↔_}
 use mathlib.Core.Bool.{Bool, true, false, cond, not, _&&_, _||_, true≢false}
-use mathlib.Core.List.{List, [], _∷_, _++_}
-use Prim.Native.Nat.{ℕ, zero, suc, _+_, _*_, _^_, _≤_, _<_}
-use native.Mathlib.Nat.{le-of-lt}
+use mathlib.Core.List.{List, [], _∷_, _++_, append-nil}
+use Prim.Native.Nat.{ℕ, _+_, _-_, _*_, _/_, _%_, _^_, _≤_, _<_}
+use native.Mathlib.Nat.{le-of-lt, le-of-eq, div-eq-of-lt-le}
 use native.Mathlib.Omega.{arith}
-use lib.ListN.{length, take, drop, length-drop}
+use lib.ListN.{length, drop, getD}
 use lib.Seq.{drop-at}
-use lib.Dec.{T, eqb, ltb}
-use borrow.Author.Tests.{lt-ltb, le-ltb, ltb-true, ltb-false, eq-eqb, ne-eqb}
-use Rattle.precision.specs.Precision.{imageLength, wordCount}
-use Rattle.nodes.specs.Nodes.{node, decode, storedWord}
-use Rattle.nodes.proofs.Nodes.{decode-right, decode-last}
-use Rattle.answers.specs.Refusal.{Refusal, Outcome, outcome, served}
-use Rattle.answers.proofs.Order.{avoids, first, later, served-value}
+use lib.Pow.{pow-pos}
+use lib.Dec.{T, eqb, ltb, lit<}
+use borrow.Author.Tests.{lt-ltb, le-ltb, ltb-true, ltb-false, eq-eqb}
+use Rattle.precision.specs.Precision.{inRange, imageLength, wordCount, wordWidth}
+use Rattle.nodes.specs.Nodes.{node, decode, storedWord, isRight}
+use Rattle.nodes.proofs.Nodes.{decode-right, decode-last, node-above, node-below, node-last, lead-double, stored-word-first, stored-word-between}
+use Rattle.packing.specs.Packing.{bitAt, bitOfWord, firstByte, lastByte}
+use Rattle.packing.proofs.Words.{word-local}
+use Rattle.packing.proofs.Bits.{bit-of-packed}
+use Rattle.answers.specs.Refusal.{Refusal, Outcome, outcome, served, turnedBack}
+use Rattle.answers.proofs.Order.{avoids, first, later}
 use Rattle.image.specs.Image.{image, builtBuffer, afterImage, wordOf, isWrong, firstWrong}
-use Rattle.image.specs.Refusals.{precisionRefusal, bufferRefusal, nodeRefusal, imageRefusal, wordRefusal, brokenLimit}
+use Rattle.image.specs.Refusals.{precisionRefusal, bufferRefusal, nodeRefusal, imageRefusal, wordRefusal}
 use Rattle.image.specs.Calls.{buildOutcome, buildLeaves, noImage, checkOutcome, nodeRefusals, nodeOutcome}
-use Rattle.image.proofs.Laws.{image-length, built-length, not-wrong, right-not-wrong}
-use Rattle.image.proofs.Limits.{limit-none, limit-image, limit-no-image, limit-passes, limit-kept, image-limit}
-use Rattle.image.proofs.Lowest.{lowest-passes, lowest-before}
-use Rattle.image.proofs.Judging.{node-wrong}
+use Rattle.image.proofs.Laws.{image-length, image-word, built-length, not-wrong, right-not-wrong, stored-lt}
+use Rattle.image.proofs.Limits.{limit-none, limit-image, limit-passes, limit-kept, image-limit}
+use Rattle.image.proofs.Lowest.{lowest-passes, lowest-before, lowest-none, lowest-agrees}
+use Rattle.image.proofs.Judging.{node-wrong, node-right, node-end, node-above as node-above-end}
 use Rattle.statements.specs.Terms.{IsPrecision, IsLongEnough, IsRightAt}
-use Rattle.statements.proofs.Iff.{joined, both, row3, row4, is-precision, no-precision, is-below, not-below, wrong-word, no-wrong-word, some-wrong, none-wrong}
+use Rattle.statements.proofs.Iff.{joined, both, is-precision, no-precision, is-below, not-below, wrong-word, no-wrong-word, some-wrong}
 
 -- a lone test, with nothing behind it
 pub alone : {A : Type 0} {n : ℕ} → (A × (n ≡ n)) ↔ A
@@ -134,3 +138,97 @@ served-decodes k s j h f = by (ltb j (2 ^ k)) refl
     by false e =
         let same : j ≡ 2 ^ k = omega (arith, ltb-false j (2 ^ k) e) in
         ap (λ (i : ℕ). decode k i (wordOf k s j)) same ∙ decode-last k (wordOf k s j) ∙ ap (node k) (sym same)
+
+-- i = 2^k + j is never 0
+pub index-positive : (k j : ℕ) → 0 < 2 ^ k + j
+index-positive k j = omega (arith, pow-pos k)
+
+-- a value from 2^(2k+2) up to 2^(2k+3) has 2k + 3 bits with a leading one
+pub leading-one : (k j : ℕ) → 0 < j → j ≤ 2 ^ k → node k j / 2 ^ (2 * k + 2) ≡ 1
+leading-one k j h l =
+    div-eq-of-lt-le (2 ^ (2 * k + 2)) (omega (arith, low (ltb j (2 ^ k)) refl)) (omega (arith, node-below k j h, lead-double k))
+  where
+    low : (b : Bool) → ltb j (2 ^ k) ≡ b → 2 ^ (2 * k + 2) ≤ node k j
+    low true e = le-of-lt (node-above k j (ltb-true j (2 ^ k) e))
+    low false e =
+        let same : j ≡ 2 ^ k = omega (arith, ltb-false j (2 ^ k) e) in
+        le-of-eq (sym (ap (node k) same ∙ node-last k))
+
+module _ (k : ℕ) (s : List ℕ) (p : IsPrecision k) (l : IsLongEnough k s) where
+  pub built-words : (j : ℕ) → j < 2 ^ k → IsRightAt k (buildLeaves k s) j
+  built-words j h = rw (built k s p l) (image-word k j (afterImage k s) h)
+
+  still-long : IsLongEnough k (buildLeaves k s)
+  still-long = rw (built-as-long k s) l
+
+  pub read-back : (j : ℕ) → j ≤ 2 ^ k → nodeOutcome k (buildLeaves k s) j ≡ served (node k j)
+  read-back j h =
+      kept-answer k (buildLeaves k s) (nodeRefusal k j ∷ wordRefusal k (buildLeaves k s) j ∷ []) (decode k j (wordOf k (buildLeaves k s) j)) p still-long
+      ∙ by (ltb j (2 ^ k)) refl
+      ∙ ap served (served-decodes k (buildLeaves k s) j h (built-words j))
+    where
+      by : (b : Bool) → ltb j (2 ^ k) ≡ b → outcome (nodeRefusal k j ∷ wordRefusal k (buildLeaves k s) j ∷ []) (decode k j (wordOf k (buildLeaves k s) j)) ≡ served (decode k j (wordOf k (buildLeaves k s) j))
+      by true e =
+          let m = ltb-true j (2 ^ k) e in
+          node-right k (buildLeaves k s) j (decode k j (wordOf k (buildLeaves k s) j)) m (right-not-wrong k (buildLeaves k s) j (built-words j m))
+      by false e = node-end k (buildLeaves k s) j (decode k j (wordOf k (buildLeaves k s) j)) (omega (arith, ltb-false j (2 ^ k) e))
+
+  pub built-checks : checkOutcome k (buildLeaves k s) ≡ served 0
+  built-checks =
+      kept-answer k (buildLeaves k s) (imageRefusal k (buildLeaves k s) ∷ []) 0 p still-long
+      ∙ rw
+      (le-ltb (firstWrong k (buildLeaves k s)) (2 ^ k)
+      (le-of-eq (sym (lowest-none (isWrong k (buildLeaves k s)) (2 ^ k) (λ j h. right-not-wrong k (buildLeaves k s) j (built-words j h))))))
+
+-- bit b of word j of the image
+pub image-bits : (k j b : ℕ) → j < 2 ^ k → b < 2 * k + 2 → bitAt (image k) (j * (2 * k + 2) + b) ≡ bitOfWord (2 * k + 2) (node k j % 2 ^ (2 * k + 2)) b
+image-bits k j b h l =
+    ap (λ (t : List ℕ). bitAt t (j * (2 * k + 2) + b)) (sym (append-nil (image k)))
+    ∙ bit-of-packed (wordWidth k) (storedWord k) (wordCount k) j b [] (λ i. lit< tt) (λ i m. stored-lt k i) h l
+
+-- two buffers that are long enough
+module _ (k : ℕ) (s t : List ℕ) (l : IsLongEnough k s) (m : IsLongEnough k t) where
+  rest-same : (rs us : List Refusal) (v w : ℕ) → outcome rs v ≡ outcome us w
+      → outcome (precisionRefusal k ∷ bufferRefusal k s ∷ rs) v ≡ outcome (precisionRefusal k ∷ bufferRefusal k t ∷ us) w
+  rest-same rs us v w e =
+      rw (le-ltb (length s) (imageLength k) l, le-ltb (length t) (imageLength k) m)
+      (ap (λ (o : Outcome). cond (not (inRange k)) (turnedBack (precisionRefusal k)) o) e)
+
+  pub node-same : (j : ℕ) → (j < 2 ^ k → wordOf k s j ≡ wordOf k t j) → nodeOutcome k s j ≡ nodeOutcome k t j
+  node-same j e =
+      rest-same (nodeRefusal k j ∷ wordRefusal k s j ∷ []) (nodeRefusal k j ∷ wordRefusal k t j ∷ []) v w (by (ltb j (2 ^ k)) (ltb (2 ^ k) j) refl refl)
+    where
+      v : ℕ
+      v = decode k j (wordOf k s j)
+
+      w : ℕ
+      w = decode k j (wordOf k t j)
+
+      by : (a b : Bool) → ltb j (2 ^ k) ≡ a → ltb (2 ^ k) j ≡ b → outcome (nodeRefusal k j ∷ wordRefusal k s j ∷ []) v ≡ outcome (nodeRefusal k j ∷ wordRefusal k t j ∷ []) w
+      by true b below above =
+          ap
+          (λ (x : ℕ). outcome (nodeRefusal k j ∷ record { applies = ltb j (2 ^ k) && not (isRight k j x); number = 6; place = j } ∷ []) (decode k j x))
+          (e (ltb-true j (2 ^ k) below))
+      by false true below above =
+          let h = ltb-true (2 ^ k) j above in
+          node-above-end k s j v h ∙ sym (node-above-end k t j w h)
+      by false false below above =
+          let last : j ≡ 2 ^ k = omega (arith, ltb-false j (2 ^ k) below, ltb-false (2 ^ k) j above) in
+          node-end k s j v last ∙ ap served (rw (eq-eqb j (2 ^ k) last)) ∙ sym (node-end k t j w last)
+
+  pub check-same : ((j : ℕ) → j < 2 ^ k → wordOf k s j ≡ wordOf k t j) → checkOutcome k s ≡ checkOutcome k t
+  check-same e =
+      rest-same (imageRefusal k s ∷ []) (imageRefusal k t ∷ []) 0 0
+      (ap (λ (f : ℕ). outcome (record { applies = ltb f (wordCount k); number = 6; place = f } ∷ []) 0)
+      (lowest-agrees (isWrong k s) (isWrong k t) (wordCount k) (λ j h. ap (λ (x : ℕ). not (isRight k j x)) (e j h))))
+
+-- a word by its bytes
+pub word-same : (k : ℕ) (s t : List ℕ) (j : ℕ) → ((i : ℕ) → firstByte (wordWidth k) j ≤ i → i ≤ lastByte (wordWidth k) j → getD s i 0 ≡ getD t i 0) → wordOf k s j ≡ wordOf k t j
+word-same k s t j = word-local (wordWidth k) s t j (omega arith)
+
+-- zero words
+pub zero-right : (k : ℕ) (s : List ℕ) → wordOf k s 0 ≡ 0 → IsRightAt k s 0
+zero-right k s e = e ∙ sym (stored-word-first k)
+
+pub zero-wrong : (k : ℕ) (s : List ℕ) (j : ℕ) → 0 < j → j < 2 ^ k → wordOf k s j ≡ 0 → IsRightAt k s j → ⊥
+zero-wrong k s j h l e r = omega (arith, node-above k j l, sym e ∙ r ∙ stored-word-between k j h l)
