@@ -6,14 +6,14 @@
 use mathlib.Core.Path.{_≡_, _∙_}
 use mathlib.Core.Logic.{_↔_}
 use mathlib.Core.List.{List, [], _∷_}
-use Prim.Native.Nat.{ℕ, _^_, _≤_, _<_}
-use lib.ListN.{length, drop}
+use Prim.Native.Nat.{ℕ, _+_, _-_, _*_, _/_, _^_, _≤_, _<_}
+use lib.ListN.{length, drop, getD}
 use Rattle.precision.specs.Precision.{imageLength}
 use Rattle.nodes.specs.Nodes.{node, decode}
 use Rattle.answers.proofs.Order.{avoided, first, later, placed, value-of-0, refused-value, served-value}
 use Rattle.image.specs.Image.{wordOf}
 use Rattle.image.specs.Refusals.{nodeRefusal, imageRefusal, wordRefusal}
-use Rattle.image.specs.Calls.{buildRefusals, buildOutcome, buildLeaves, checkRefusals, checkOutcome, nodeRefusals, nodeOutcome}
+use Rattle.image.specs.Calls.{buildRefusals, buildOutcome, buildLeaves, checkRefusals, checkOutcome, nodeRefusals, nodeOutcome, shownPart}
 use Rattle.statements.specs.Terms.{IsPrecision, IsLongEnough, IsRightAt}
 use Rattle.statements.proofs.Iff.{joined, both, row3, row4, same, some-wrong, none-wrong}
 use Rattle.statements.proofs.Support.{
@@ -30,6 +30,9 @@ use Rattle.statements.proofs.Support.{
   node-number-0,
   node-place,
   served-decodes,
+  shown-empty,
+  shown-length,
+  shown-bytes,
 }
 
 -- The builder.
@@ -132,3 +135,16 @@ module _ (k : ℕ) (s : List ℕ) (j : ℕ) where
   node-served-value e =
       let t = node-serves .0 e in
       served-value (nodeRefusals k s j) (decode k j (wordOf k s j)) tt e .1 ∙ served-decodes k s j (t .2) (t .3)
+
+-- Showing the bytes of one word. That call has no numbers.
+module _ (k : ℕ) (s : List ℕ) (j : ℕ) where
+  -- an empty part exactly when refusal 1 or 2 applies or j is above 2^k - 1
+  pub part-empty : (shownPart k s j ≡ []) ↔ ((IsPrecision k × IsLongEnough k s × (j < 2 ^ k)) → ⊥)
+  part-empty = shown-empty k s j
+
+  -- and otherwise it runs from byte floor(j × w / 8) to byte floor((j × w + w - 1) / 8), both included, of the caller's image
+  pub part-length : IsPrecision k → IsLongEnough k s → j < 2 ^ k → length (shownPart k s j) ≡ (j * (2 * k + 2) + (2 * k + 2) - 1) / 8 + 1 - j * (2 * k + 2) / 8
+  part-length = shown-length k s j
+
+  pub part-bytes : IsPrecision k → IsLongEnough k s → j < 2 ^ k → (i : ℕ) → i < length (shownPart k s j) → getD (shownPart k s j) i 0 ≡ getD s (j * (2 * k + 2) / 8 + i) 0
+  part-bytes = shown-bytes k s j

@@ -8,23 +8,23 @@ use mathlib.Core.List.{List, [], _∷_, _++_, append-nil}
 use Prim.Native.Nat.{ℕ, _+_, _-_, _*_, _/_, _%_, _^_, _≤_, _<_}
 use native.Mathlib.Nat.{le-of-lt, le-of-eq, div-eq-of-lt-le}
 use native.Mathlib.Omega.{arith}
-use lib.ListN.{length, drop, getD}
-use lib.Seq.{drop-at}
+use lib.ListN.{length, drop, getD, length-take, length-drop}
+use lib.Seq.{drop-at, getD-take, getD-drop}
 use lib.Pow.{pow-pos}
 use lib.Dec.{T, eqb, ltb, lit<}
 use borrow.Author.Tests.{lt-ltb, le-ltb, ltb-true, ltb-false, eq-eqb}
 use Rattle.precision.specs.Precision.{inRange, imageLength, wordCount, wordWidth}
 use Rattle.nodes.specs.Nodes.{node, decode, storedWord, isRight}
 use Rattle.nodes.proofs.Nodes.{decode-right, decode-last, node-above, node-below, node-last, lead-double, stored-word-first, stored-word-between}
-use Rattle.packing.specs.Packing.{bitAt, bitOfWord, firstByte, lastByte}
-use Rattle.packing.proofs.Words.{word-local}
+use Rattle.packing.specs.Packing.{bitAt, bitOfWord, firstByte, lastByte, spanBytes}
+use Rattle.packing.proofs.Words.{word-local, span-within, span-ordered}
 use Rattle.packing.proofs.Bits.{bit-of-packed}
 use Rattle.answers.specs.Refusal.{Refusal, Outcome, outcome, served, turnedBack}
 use Rattle.answers.proofs.Order.{avoids, first, later}
-use Rattle.image.specs.Image.{image, builtBuffer, afterImage, wordOf, isWrong, firstWrong}
+use Rattle.image.specs.Image.{image, builtBuffer, afterImage, wordOf, isWrong, firstWrong, wordPart}
 use Rattle.image.specs.Refusals.{precisionRefusal, bufferRefusal, nodeRefusal, imageRefusal, wordRefusal}
-use Rattle.image.specs.Calls.{buildOutcome, buildLeaves, noImage, checkOutcome, nodeRefusals, nodeOutcome}
-use Rattle.image.proofs.Laws.{image-length, image-word, built-length, not-wrong, right-not-wrong, stored-lt}
+use Rattle.image.specs.Calls.{buildOutcome, buildLeaves, noImage, checkOutcome, nodeRefusals, nodeOutcome, shownPart}
+use Rattle.image.proofs.Laws.{image-length, image-word, byte-count, built-length, not-wrong, right-not-wrong, stored-lt}
 use Rattle.image.proofs.Limits.{limit-none, limit-image, limit-passes, limit-kept, image-limit}
 use Rattle.image.proofs.Lowest.{lowest-passes, lowest-before, lowest-none, lowest-agrees}
 use Rattle.image.proofs.Judging.{node-wrong, node-right, node-end, node-above as node-above-end}
@@ -232,3 +232,38 @@ zero-right k s e = e ∙ sym (stored-word-first k)
 
 pub zero-wrong : (k : ℕ) (s : List ℕ) (j : ℕ) → 0 < j → j < 2 ^ k → wordOf k s j ≡ 0 → IsRightAt k s j → ⊥
 zero-wrong k s j h l e r = omega (arith, node-above k j l, sym e ∙ r ∙ stored-word-between k j h l)
+
+-- the part of bytes that is shown
+module _ (k : ℕ) (s : List ℕ) (j : ℕ) where
+  shown : IsPrecision k → IsLongEnough k s → j < 2 ^ k → shownPart k s j ≡ wordPart k s j
+  shown p l h = rw (limit-image k s (limit-none k s (p .0) (p .1) l), lt-ltb j (2 ^ k) h)
+
+  -- its bytes lie within the buffer
+  inside : IsPrecision k → IsLongEnough k s → j < 2 ^ k → lastByte (wordWidth k) j < length s
+  inside p l h = omega (arith, span-within (wordWidth k) (wordCount k) j (omega arith) h, byte-count k (p .0))
+
+  pub shown-length : IsPrecision k → IsLongEnough k s → j < 2 ^ k → length (shownPart k s j) ≡ lastByte (wordWidth k) j + 1 - firstByte (wordWidth k) j
+  shown-length p l h =
+      ap length (shown p l h)
+      ∙ length-take (spanBytes (wordWidth k) j) (drop (firstByte (wordWidth k) j) s)
+      ∙ omega (arith, length-drop (firstByte (wordWidth k) j) s, inside p l h)
+
+  pub shown-bytes : IsPrecision k → IsLongEnough k s → j < 2 ^ k → (i : ℕ) → i < length (shownPart k s j) → getD (shownPart k s j) i 0 ≡ getD s (firstByte (wordWidth k) j + i) 0
+  shown-bytes p l h i m =
+      ap (λ (t : List ℕ). getD t i 0) (shown p l h)
+      ∙ getD-take (spanBytes (wordWidth k) j) (drop (firstByte (wordWidth k) j) s) i 0 (omega (arith, shown-length p l h))
+      ∙ getD-drop (firstByte (wordWidth k) j) s i 0
+
+  pub shown-empty : (shownPart k s j ≡ []) ↔ ((IsPrecision k × IsLongEnough k s × (j < 2 ^ k)) → ⊥)
+  shown-empty = (to, from (noImage k s) (ltb j (2 ^ k)) refl refl)
+    where
+      to : shownPart k s j ≡ [] → (IsPrecision k × IsLongEnough k s × (j < 2 ^ k)) → ⊥
+      to e t =
+          omega (arith, ap length e, shown-length (t .0) (t .1) (t .2), span-ordered (wordWidth k) j (omega arith))
+
+      from : (a b : Bool) → noImage k s ≡ a → ltb j (2 ^ k) ≡ b → ((IsPrecision k × IsLongEnough k s × (j < 2 ^ k)) → ⊥) → cond (a || not b) [] (wordPart k s j) ≡ []
+      from true b e d f = refl
+      from false false e d f = refl
+      from false true e d f =
+          let kept = limit-kept k s (image-limit k s e) in
+          absurd (f ((kept .low, kept .high), kept .long, ltb-true j (2 ^ k) d))
