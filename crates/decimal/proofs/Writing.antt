@@ -1,0 +1,48 @@
+-- Laws of text written at a place: its length, pieces written one after the other, and one byte as a store.
+-- Assumes nothing.
+use mathlib.Core.Path.{_≡_, refl, sym, ap, _∙_}
+use mathlib.Core.List.{List, [], _∷_, _++_, append-assoc, append-nil}
+use Prim.Native.Nat.{ℕ, suc, _+_, _-_, _≤_, _<_}
+use native.Mathlib.Nat.{add-assoc, add-zero}
+use native.Mathlib.Numerals.{add-one}
+use native.Mathlib.Omega.{arith}
+use lib.ListN.{length, take, drop, set, length-append, length-drop, take-append-drop}
+use lib.Seq.{length-take-le, take-at, drop-at, drop-append-add, drop-drop, set-split, paste, take-length, append-snoc}
+use Rattle.decimal.specs.Text.{written}
+
+module _ (s : List ℕ) (at : ℕ) (t : List ℕ) (fits : at + length t ≤ length s) where
+  -- what stands up to the end of the text
+  head-length : length (take at s ++ t) ≡ at + length t
+  head-length = rw (length-append, length-take-le at s (omega arith))
+
+  -- writing keeps the length
+  pub length-written : length (written s at t) ≡ length s
+  unfolding written
+  length-written = simp (length-append, length-drop, length-take-le at s (omega arith)) (omega arith)
+
+  -- a second piece right after the first: the two are one text
+  pub written-more : (u : List ℕ) → written (written s at t) (at + length t) u ≡ written s at (t ++ u)
+  unfolding written
+  written-more u =
+      rw (take-at (take at s ++ t) (drop (at + length t) s) (at + length t) head-length)
+      (ap (λ (r : List ℕ). take at s ++ t ++ u ++ r)
+      (ap (λ (n : ℕ). drop (n + length u) (take at s ++ t ++ drop (at + length t) s)) (sym head-length)
+      ∙ drop-append-add (take at s ++ t) (drop (at + length t) s) (length u)
+      ∙ drop-drop (length u) (at + length t) s
+      ∙ ap (λ (n : ℕ). drop n s) (add-assoc at (length t) (length u) ∙ ap (λ (n : ℕ). at + n) (sym (length-append t u))))
+      ∙ ap (λ (r : List ℕ). r ++ drop (at + length (t ++ u)) s) (append-assoc (take at s) t u))
+
+-- one byte written is one store
+pub written-one : (s : List ℕ) (at b : ℕ) → at < length s → written s at (b ∷ []) ≡ set s at b
+unfolding written
+written-one s at b h = rw (add-one, set-split s at b h, append-snoc)
+
+-- no text changes nothing
+pub written-none : (s : List ℕ) (at : ℕ) → written s at [] ≡ s
+unfolding written
+written-none s at = rw (add-zero, append-nil) (take-append-drop at s)
+
+-- a copy of all of t is t written
+pub paste-written : (s : List ℕ) (at : ℕ) (t : List ℕ) → paste s at t (length t) ≡ written s at t
+unfolding written
+paste-written s at t = rw take-length
