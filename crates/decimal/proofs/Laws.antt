@@ -77,6 +77,9 @@ unfolding decimal
 decimal-large n l h =
     digits-large 19 n l ∙ ap (λ (s : List ℕ). s ++ ((48 + n % 10) ∷ [])) (sym (digits-enough 18 (n / 10) (tenth-below 19 n h)))
 
+pub length-large : (n : ℕ) → 10 ≤ n → n < 10 ^ 20 → length (decimal n) ≡ length (decimal (n / 10)) + 1
+length-large n l h = ap length (decimal-large n l h) ∙ length-append (decimal (n / 10)) ((48 + n % 10) ∷ [])
+
 -- twenty digits at most, for every number
 pub length-decimal : (n : ℕ) → length (decimal n) ≤ 20
 unfolding decimal
@@ -162,8 +165,11 @@ value-within v [] p = omega arith
 value-within v (b ∷ s) p =
     let h = digit-first b s p in
     rw pow-suc
-    (omega (arith, value-within (v * 10 + (b - 48)) s (h .2),
-    mul-le-mul-right {m = v * 10 + (b - 48) + 1} {n = (v + 1) * 10} (10 ^ length s) (omega (arith, h .0, h .1))))
+    (omega (
+      arith,
+      value-within (v * 10 + (b - 48)) s (h .2),
+      mul-le-mul-right {m = v * 10 + (b - 48) + 1} {n = (v + 1) * 10} (10 ^ length s) (omega (arith, h .0, h .1)),
+    ))
 
 -- the value of d digits is below 10^d
 pub value-below : (s : List ℕ) → allDigits s ≡ true → decimalValue s < 10 ^ length s

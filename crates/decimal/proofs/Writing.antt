@@ -37,6 +37,12 @@ pub written-one : (s : List ℕ) (at b : ℕ) → at < length s → written s at
 unfolding written
 written-one s at b h = rw (add-one, set-split s at b h, append-snoc)
 
+-- one byte more after a text is a store at the place after it
+pub written-snoc : (s : List ℕ) (at : ℕ) (t : List ℕ) (b : ℕ) → at + length t < length s → set (written s at t) (at + length t) b ≡ written s at (t ++ (b ∷ []))
+written-snoc s at t b h =
+    sym (written-one (written s at t) (at + length t) b (rw (length-written s at t (omega arith)) h))
+    ∙ written-more s at t (omega arith) (b ∷ [])
+
 -- no text changes nothing
 pub written-none : (s : List ℕ) (at : ℕ) → written s at [] ≡ s
 unfolding written
