@@ -1,11 +1,11 @@
 -- The image of a precision, and what a buffer holds of it (document 01, "The image").
 -- Assumes nothing.
-use Prim.Native.Nat.{ℕ, zero, suc, _+_, _*_, _%_, _^_, _<_, _/_}
-use mathlib.Core.Bool.{Bool, cond, not}
-use mathlib.Core.List.{List, [], _∷_, _++_}
-use lib.Dec.{ltb}
-use lib.ListN.{length, take, drop}
+use Prim.Native.Nat.{ℕ}
+use mathlib.Core.Bool.{Bool, not}
+use mathlib.Core.List.{List, _++_}
+use lib.ListN.{take, drop}
 use Rattle.precision.specs.Precision.{wordWidth, wordCount, imageLength}
+use Rattle.image.specs.Lowest.{lowest}
 use Rattle.nodes.specs.Nodes.{storedWord, isRight}
 use Rattle.packing.specs.Packing.{packedBytes, wordAt, firstByte, spanBytes}
 
@@ -28,11 +28,6 @@ wordOf k s j = wordAt (wordWidth k) s j
 -- the word that a buffer holds for node j is not the construction's
 abbrev pub isWrong : ℕ → List ℕ → ℕ → Bool
 isWrong k s j = not (isRight k j (wordOf k s j))
-
--- the lowest number below n that passes a test, and n where none does
-unfoldable pub lowest : (ℕ → Bool) → ℕ → ℕ
-lowest p zero = zero
-lowest p (suc n) = cond (ltb (lowest p n) n) (lowest p n) (cond (p n) n (suc n))
 
 -- the lowest node whose word is wrong, and 2^k where none is
 abbrev pub firstWrong : ℕ → List ℕ → ℕ

@@ -1,6 +1,6 @@
 -- Words packed into bytes, most significant bit first, for any width w and any word function (document 01, "The image").
 -- Assumes nothing.
-use Prim.Native.Nat.{ℕ, zero, suc, _+_, _-_, _*_, _/_, _%_, _^_}
+use Prim.Native.Nat.{ℕ, zero, suc, _+_, _-_, _*_, _/_, _%_, _^_, _<_}
 use mathlib.Core.List.{List, [], _∷_, _++_}
 use mathlib.Core.Bool.{Bool, cond, _&&_}
 use lib.Dec.{leb}
@@ -27,6 +27,10 @@ fillBits w n = 8 * byteCount w n - n * w
 -- n words of w bits, packed with no padding between them, and zero bits to the byte's end
 abbrev pub packedBytes : ℕ → (ℕ → ℕ) → ℕ → List ℕ
 packedBytes w f n = toBytes (byteCount w n) (packed w f n * 2 ^ fillBits w n)
+
+-- every element is a byte
+abbrev pub Bytes : List ℕ → Type 0
+Bytes s = (i : ℕ) → getD s i 0 < 256
 
 -- the number that n bytes from place a make
 abbrev pub bytesValue : List ℕ → ℕ → ℕ → ℕ

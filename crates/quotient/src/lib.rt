@@ -11,11 +11,8 @@ pub fn rounded_up(numerator: u64, divisor: u32) -> u64
     }
     let i = divisor as u64;
     let down = numerator / i;
-    if down * i == numerator {
-        down
-    } else {
-        down + 1
-    }
+    let rest = numerator - down * i;
+    if rest == 0 { down } else { down + 1 }
 }
 
 // Whether value is the quotient rounded up, without dividing; never where the divisor is 0.

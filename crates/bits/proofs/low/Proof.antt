@@ -28,11 +28,12 @@ returns-2 : tie.Need-returns-2
 returns-2 c =
     let x = c .before .args .x in
     let p = 2 ^ c .before .args .count in
-    omega
-    (arith,
-    mod-eq-of-lt {n = x / p * p} {m = 2 ^ 64} (omega (arith, div-mul-le-self x p)),
-    div-mul-le-self x p,
-    div-add-mod' x p)
+    omega (
+      arith,
+      mod-eq-of-lt {n = x / p * p} {m = 2 ^ 64} (omega (arith, div-mul-le-self x p)),
+      div-mul-le-self x p,
+      div-add-mod' x p,
+    )
 
 pub low-spec : {M : Type 1} → statement M
 low-spec = tie.close (tie.spec returns shr-result shl-result sub-result returns-2)

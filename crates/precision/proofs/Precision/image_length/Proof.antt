@@ -35,10 +35,11 @@ returns-3 : tie.Need-returns-3
 unfolding lengths
 returns-3 c =
     let k = c .before .before .args .self .0 in
-    let e : k - 1 + 1 ≡ k = omega (arith, c .before .if1 .left) in
-    (simp (le-leb _ _ (c .if2 .left), le-leb _ _ (c .before .if1 .left))
-    (entry (λ (p : ℕ). imageLength (p + 1)) lengths tt (k - 1) (search needs) ∙ ap imageLength e),
-    refl)
+    let e : k - 1 + 1 ≡ k = omega (arith, c .before .if1 .left) in (
+      simp (le-leb _ _ (c .if2 .left), le-leb _ _ (c .before .if1 .left))
+          (entry (λ (p : ℕ). imageLength (p + 1)) lengths tt (k - 1) (search needs) ∙ ap imageLength e),
+      refl,
+    )
 
 pub image-length-spec : {M : Type 1} → statement M
 image-length-spec =

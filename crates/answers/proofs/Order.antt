@@ -1,0 +1,94 @@
+-- What the order of a list of refusals means for the number, the place and the value of an answer, for any list.
+-- Assumes nothing.
+use mathlib.Core.Path.{_≡_, refl, sym, _∙_, ap}
+use mathlib.Core.Logic.{_↔_}
+use mathlib.Core.Bool.{Bool, true, false, cond, not, _&&_, _||_}
+use mathlib.Core.List.{List, [], _∷_}
+use Prim.Native.Nat.{ℕ}
+use native.Mathlib.Omega.{arith}
+use lib.Dec.{T, eqb, eqb→eq, eqb-refl, T-not}
+use Rattle.answers.specs.Refusal.{Refusal, Outcome, outcome, turnedBack, served}
+
+-- n is neither 0 nor the number of a refusal in the list
+abbrev pub avoids : ℕ → List Refusal → Bool
+avoids n [] = not (eqb n 0)
+avoids n (r ∷ rs) = not (eqb n (r .number)) && avoids n rs
+
+-- each refusal of the list has a number other than 0
+abbrev pub numbered : List Refusal → Bool
+numbered [] = true
+numbered (r ∷ rs) = not (eqb (r .number) 0) && numbered rs
+
+-- each refusal of the list has place 0, but for those of number n
+abbrev pub placedAt : ℕ → List Refusal → Bool
+placedAt n [] = true
+placedAt n (r ∷ rs) = (eqb (r .number) n || eqb (r .place) 0) && placedAt n rs
+
+and-left : (a b : Bool) → T (a && b) → T a
+and-left true b t = tt
+and-left false b t = absurd t
+
+and-right : (a b : Bool) → T (a && b) → T b
+and-right true b t = t
+and-right false b t = absurd t
+
+-- two numbers that a test tells apart are not equal
+pub apart : (m n : ℕ) → T (not (eqb m n)) → m ≡ n → ⊥
+apart m n t e = T-not (eqb m n) t (rw e (eqb-refl n))
+
+-- what holds of both arms holds of the choice
+chosen : (P : Outcome → Type 0) (b : Bool) (x y : Outcome) → P x → P y → P (cond b x y)
+chosen P true x y p q = p
+chosen P false x y p q = q
+
+-- an answer never has a number that its refusals avoid
+pub avoided : (n : ℕ) (rs : List Refusal) (v : ℕ) → T (avoids n rs) → outcome rs v .number ≡ n → ⊥
+avoided n [] v t = λ e. apart n 0 t (sym e)
+avoided n (r ∷ rs) v t =
+    chosen (λ o. o .number ≡ n → ⊥) (r .applies) (turnedBack r) (outcome rs v)
+    (λ e. apart n (r .number) (and-left (not (eqb n (r .number))) (avoids n rs) t) (sym e))
+    (avoided n rs v (and-right (not (eqb n (r .number))) (avoids n rs) t))
+
+first-of : (b : Bool) (x y : Outcome) (n : ℕ) → x .number ≡ n → (y .number ≡ n → ⊥) → (cond b x y .number ≡ n) ↔ T b
+first-of true x y n e f = (λ h. tt, λ t. e)
+first-of false x y n e f = (λ h. f h, λ t. absurd t)
+
+-- the number is that of the first refusal exactly when this one applies
+pub first : (r : Refusal) (rs : List Refusal) (v : ℕ) → T (avoids (r .number) rs) → (outcome (r ∷ rs) v .number ≡ r .number) ↔ T (r .applies)
+first r rs v t = first-of (r .applies) (turnedBack r) (outcome rs v) (r .number) refl (avoided (r .number) rs v t)
+
+later-of : (b : Bool) (x y : Outcome) (n : ℕ) → (x .number ≡ n → ⊥) → (cond b x y .number ≡ n) ↔ (T (not b) × (y .number ≡ n))
+later-of true x y n f = (λ h. absurd (f h), λ t. absurd (t .0))
+later-of false x y n f = (λ h. (tt, h), λ t. t .1)
+
+-- the number is another one exactly when the first refusal does not apply and those after it give that number
+pub later : (n : ℕ) (r : Refusal) (rs : List Refusal) (v : ℕ) → T (not (eqb (r .number) n)) → (outcome (r ∷ rs) v .number ≡ n) ↔ (T (not (r .applies)) × (outcome rs v .number ≡ n))
+later n r rs v t = later-of (r .applies) (turnedBack r) (outcome rs v) n (apart (r .number) n t)
+
+-- a call that is turned back has the value 0
+pub refused-value : (rs : List Refusal) (v : ℕ) → (outcome rs v .number ≡ 0 → ⊥) → outcome rs v .value ≡ 0
+refused-value [] v = λ f. absurd (f refl)
+refused-value (r ∷ rs) v =
+    chosen (λ o. (o .number ≡ 0 → ⊥) → o .value ≡ 0) (r .applies) (turnedBack r) (outcome rs v) (λ f. refl) (refused-value rs v)
+
+-- a served call has place 0 and its value
+pub served-value : (rs : List Refusal) (v : ℕ) → T (numbered rs) → outcome rs v .number ≡ 0 → (outcome rs v .place ≡ 0) × (outcome rs v .value ≡ v)
+served-value [] v t = λ e. (refl, refl)
+served-value (r ∷ rs) v t =
+    chosen (λ o. o .number ≡ 0 → (o .place ≡ 0) × (o .value ≡ v)) (r .applies) (turnedBack r) (outcome rs v)
+    (λ e. absurd (apart (r .number) 0 (and-left (not (eqb (r .number) 0)) (numbered rs) t) e))
+    (served-value rs v (and-right (not (eqb (r .number) 0)) (numbered rs) t))
+
+or-apart : (a b : Bool) → T (a || b) → (T a → ⊥) → T b
+or-apart true b t f = absurd (f tt)
+or-apart false b t f = t
+
+-- the place is 0 but under the number at which refusals carry places
+pub placed : (n : ℕ) (rs : List Refusal) (v : ℕ) → T (placedAt n rs) → (outcome rs v .number ≡ n → ⊥) → outcome rs v .place ≡ 0
+placed n [] v t = λ f. refl
+placed n (r ∷ rs) v t =
+    chosen (λ o. (o .number ≡ n → ⊥) → o .place ≡ 0) (r .applies) (turnedBack r) (outcome rs v)
+    (λ f. eqb→eq (r .place) 0
+    (or-apart (eqb (r .number) n) (eqb (r .place) 0) (and-left (eqb (r .number) n || eqb (r .place) 0) (placedAt n rs) t)
+    (λ h. f (eqb→eq (r .number) n h))))
+    (placed n rs v (and-right (eqb (r .number) n || eqb (r .place) 0) (placedAt n rs) t))

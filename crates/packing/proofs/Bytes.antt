@@ -1,0 +1,61 @@
+-- Laws of `toBytes` and `bytesValue`: a number as bytes and back.
+-- Assumes nothing.
+use Prim.Native.Nat.{ℕ, zero, suc, _+_, _-_, _*_, _/_, _%_, _^_, _≤_, _<_}
+use mathlib.Core.Path.{_≡_, refl, sym, ap, ap₂, _∙_, subst}
+use mathlib.Core.List.{List, [], _∷_, _++_, append-assoc}
+use native.Mathlib.Nat.{le-refl, le-trans, le-suc, zero-add, mul-comm, mul-suc, mod-eq-of-lt, mod-one, mod-lt, zero-lt-suc}
+use native.Mathlib.Numerals.{add-one}
+use native.Mathlib.Omega.{arith}
+use lib.ListN.{getD, length, take, length-append}
+use lib.Seq.{take-suc, getD-at}
+use lib.Pow.{pow-pos, high, low, mod-pow-add}
+use Rattle.packing.specs.Packing.{packed, toBytes, bytesValue, Bytes}
+use Rattle.packing.proofs.Numbers.{packed-lt, packed-ext}
+
+-- as many bytes as asked for
+pub length-toBytes : (n v : ℕ) → length (toBytes n v) ≡ n
+length-toBytes zero v = refl
+length-toBytes (suc n) v = length-append (toBytes n (v / 256)) (v % 256 ∷ []) ∙ ap (λ (x : ℕ). x + 1) (length-toBytes n (v / 256)) ∙ add-one n
+
+-- bytes, then bytes
+pub bytes-append : (s t : List ℕ) → Bytes s → Bytes t → Bytes (s ++ t)
+bytes-append [] t hs ht i = ht i
+bytes-append (x ∷ s) t hs ht zero = hs 0
+bytes-append (x ∷ s) t hs ht (suc i) = bytes-append s t (λ j. hs (suc j)) ht i
+
+-- one byte
+pub bytes-one : (b : ℕ) → b < 256 → Bytes (b ∷ [])
+bytes-one b h zero = h
+bytes-one b h (suc i) = omega arith
+
+-- what toBytes gives are bytes
+pub bytes-toBytes : (n v : ℕ) → Bytes (toBytes n v)
+bytes-toBytes zero v i = omega arith
+bytes-toBytes (suc n) v i = bytes-append (toBytes n (v / 256)) (v % 256 ∷ []) (bytes-toBytes n (v / 256)) (bytes-one (v % 256) (omega arith)) i
+
+-- L bytes make a number of 8 × L bits
+pub value-lt : (s : List ℕ) (a n : ℕ) → ((i : ℕ) → i < n → getD s (a + i) 0 < 256) → bytesValue s a n < 2 ^ (8 * n)
+value-lt s a n h = rw (mul-comm 8 n) (packed-lt 8 (λ (i : ℕ). getD s (a + i) 0) n h)
+
+-- the bytes of a number make its lowest 8 × n bits, whatever follows them
+pub value-toBytes : (n v : ℕ) (t : List ℕ) → bytesValue (toBytes n v ++ t) 0 n ≡ v % 2 ^ (8 * n)
+value-toBytes zero v t = sym (mod-one v)
+value-toBytes (suc n) v t =
+    ap (λ (l : List ℕ). bytesValue l 0 (suc n)) (append-assoc (toBytes n (v / 256)) (v % 256 ∷ []) t)
+    ∙ ap₂ (λ (x y : ℕ). x * 2 ^ 8 + y) (value-toBytes n (v / 256) (v % 256 ∷ t)) last
+    ∙ sym (mod-pow-add v (8 * n) 8) ∙ ap (λ (x : ℕ). v % 2 ^ x) (sym (mul-suc 8 n))
+  where
+    last : getD (toBytes n (v / 256) ++ (v % 256 ∷ t)) (0 + n) 0 ≡ v % 256
+    last = ap (λ (i : ℕ). getD (toBytes n (v / 256) ++ (v % 256 ∷ t)) i 0) (zero-add n) ∙ getD-at (toBytes n (v / 256)) (v % 256) t 0 n (length-toBytes n (v / 256))
+
+-- a number of 8 × n bits comes back whole
+pub value-toBytes-exact : (n v : ℕ) (t : List ℕ) → v < 2 ^ (8 * n) → bytesValue (toBytes n v ++ t) 0 n ≡ v
+value-toBytes-exact n v t h = value-toBytes n v t ∙ mod-eq-of-lt h
+
+-- the bytes of the value of n bytes are those bytes
+pub toBytes-value : (n : ℕ) (s : List ℕ) → Bytes s → n ≤ length s → toBytes n (bytesValue s 0 n) ≡ take n s
+toBytes-value zero s hs h = refl
+toBytes-value (suc n) s hs h =
+    ap₂ (λ (x y : ℕ). toBytes n x ++ (y ∷ [])) (high (bytesValue s 0 n) 8 (hs (0 + n))) (low (bytesValue s 0 n) 8 (hs (0 + n)))
+    ∙ ap₂ (λ (x : List ℕ) (y : ℕ). x ++ (y ∷ [])) (toBytes-value n s hs (le-trans (le-suc n) h)) (ap (λ (i : ℕ). getD s i 0) (zero-add n))
+    ∙ sym (take-suc s n 0 h)
