@@ -8,7 +8,8 @@ use native.Mathlib.Numerals.{add-one}
 use native.Mathlib.Omega.{arith}
 use lib.ListN.{length, take, drop, set, length-append, length-drop, take-append-drop}
 use lib.Seq.{length-take-le, take-at, drop-at, drop-append-add, drop-drop, set-split, paste, take-length, append-snoc}
-use Rattle.decimal.specs.Text.{written}
+use borrow.Author.Tests.{le-leb}
+use Rattle.decimal.specs.Text.{written, putInto, placeAfter, Wrote}
 
 module _ (s : List ℕ) (at : ℕ) (t : List ℕ) (fits : at + length t ≤ length s) where
   -- what stands up to the end of the text
@@ -52,3 +53,16 @@ written-none s at = rw (add-zero, append-nil) (take-append-drop at s)
 pub paste-written : (s : List ℕ) (at : ℕ) (t : List ℕ) → paste s at t (length t) ≡ written s at t
 unfolding written
 paste-written s at t = rw take-length
+
+-- a call that asks for room and finds it wrote its text
+pub wrote-room : (s : List ℕ) (at n : ℕ) (t : List ℕ) {r : ℕ} {o : List ℕ} → at + n ≤ length s → r ≡ placeAfter s at n t → o ≡ putInto s at n t → Wrote s at t r o
+wrote-room s at n t h p b =
+    record { place = rw (le-leb (at + n) (length s) h) at p; bytes = rw (le-leb (at + n) (length s) h) at b }
+
+-- two calls, the second at the place that the first gave, wrote the two texts as one
+pub wrote-more : {s : List ℕ} {at : ℕ} {t : List ℕ} {p : ℕ} {o u : List ℕ} {q : ℕ} {o' : List ℕ} → at + length t ≤ length s → Wrote s at t p o → Wrote o p u q o' → Wrote s at (t ++ u) q o'
+wrote-more {s} {at} {t} {p} {o} {u} {q} {o'} h a b =
+    record {
+      place = b .place ∙ ap (λ (n : ℕ). n + length u) (a .place) ∙ add-assoc at (length t) (length u) ∙ ap (λ (n : ℕ). at + n) (sym (length-append t u));
+      bytes = b .bytes ∙ ap (λ (x : List ℕ). written x p u) (a .bytes) ∙ ap (λ (n : ℕ). written (written s at t) n u) (a .place) ∙ written-more s at t h u
+    }
