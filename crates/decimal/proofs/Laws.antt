@@ -5,7 +5,7 @@ use mathlib.Core.Logic.{_⊎_, inl, inr, ⊎-elim}
 use mathlib.Core.Bool.{Bool, true, false, cond, _&&_}
 use mathlib.Core.List.{List, [], _∷_, _++_}
 use Prim.Native.Nat.{ℕ, zero, suc, _+_, _-_, _*_, _/_, _%_, _^_, _≤_, _<_}
-use native.Mathlib.Nat.{pow-suc, mod-lt, div-lt-iff-lt-mul, div-add-mod', add-sub-cancel-left, mul-le-mul-right}
+use native.Mathlib.Nat.{pow-suc, pow-le-pow-right, mul-le-mul-right}
 use native.Mathlib.Omega.{arith}
 use borrow.Author.Tests.{lt-ltb, le-ltb, ltb-true, ltb-false, le-leb, leb-true}
 use lib.Dec.{leb, ltb}
@@ -174,3 +174,27 @@ value-within v (b ∷ s) p =
 -- the value of d digits is below 10^d
 pub value-below : (s : List ℕ) → allDigits s ≡ true → decimalValue s < 10 ^ length s
 value-below s p = omega (arith, value-within 0 s p)
+
+-- one digit or more are all digits
+pub is-all : (s : List ℕ) → isDigits s ≡ true → allDigits s ≡ true
+is-all [] p = refl
+is-all (b ∷ s) p = p
+
+-- what was read as a number is digits that stand for it
+pub reading-number : (s : List ℕ) (v : ℕ) → reading s ≡ Number v → (isDigits s ≡ true) × (decimalValue s ≡ v)
+reading-number s v e = go (isDigits s) (ltb (decimalValue s) (2 ^ 64)) refl e
+  where
+    go : (x y : Bool) → isDigits s ≡ x → cond (x && y) (Number (decimalValue s)) Other ≡ Number v → (isDigits s ≡ true) × (decimalValue s ≡ v)
+    go true true p q = (p, cc)
+    go true false p q = absurd (let z : _≡_ {A = ℕ} 0 1 = cc in omega arith)
+    go false y p q = absurd (let z : _≡_ {A = ℕ} 0 1 = cc in omega arith)
+
+-- fewer than twenty bytes that were not read as a number are not digits
+pub reading-other : (s : List ℕ) → length s ≤ 19 → reading s ≡ Other → isDigits s ≡ false
+reading-other s h e = go (isDigits s) refl e
+  where
+    go : (x : Bool) → isDigits s ≡ x → cond (x && ltb (decimalValue s) (2 ^ 64)) (Number (decimalValue s)) Other ≡ Other → isDigits s ≡ false
+    go true p q =
+        let small : decimalValue s < 2 ^ 64 = omega (arith, value-below s (is-all s p), pow-le-pow-right {n = 10} (omega arith) h) in
+        absurd (let z : _≡_ {A = ℕ} 0 1 = cc (rw (lt-ltb (decimalValue s) (2 ^ 64) small) at q) in omega arith)
+    go false p q = p

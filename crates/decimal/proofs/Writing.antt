@@ -66,3 +66,11 @@ wrote-more {s} {at} {t} {p} {o} {u} {q} {o'} h a b =
       place = b .place ∙ ap (λ (n : ℕ). n + length u) (a .place) ∙ add-assoc at (length t) (length u) ∙ ap (λ (n : ℕ). at + n) (sym (length-append t u));
       bytes = b .bytes ∙ ap (λ (x : List ℕ). written x p u) (a .bytes) ∙ ap (λ (n : ℕ). written (written s at t) n u) (a .place) ∙ written-more s at t h u
     }
+
+-- a store at the place that a call gave is one byte more of its text
+pub wrote-byte : {s : List ℕ} {at : ℕ} {t : List ℕ} {r : ℕ} {o : List ℕ} (b : ℕ) → at + length t < length s → Wrote s at t r o → Wrote s at (t ++ (b ∷ [])) (r + 1) (set o r b)
+wrote-byte {s} {at} {t} {r} {o} b h w =
+    record {
+      place = omega (arith, w .place, length-append t (b ∷ []));
+      bytes = ap (λ (x : List ℕ). set x r b) (w .bytes) ∙ ap (λ (p : ℕ). set (written s at t) p b) (w .place) ∙ written-snoc s at t b h
+    }

@@ -59,7 +59,7 @@ bytesText = 98 ∷ 121 ∷ 116 ∷ 101 ∷ 115 ∷ 32 ∷ []
 
 -- the first line: the precision and the image length
 unfoldable pub header : ℕ → List ℕ
-header k = precisionText ++ field k space ++ bytesText ++ field (imageLength k) lineFeed
+header k = precisionText ++ field k space ++ (bytesText ++ field (imageLength k) lineFeed)
 
 -- "refused 1" and a line feed
 abbrev pub refusedText : List ℕ

@@ -58,24 +58,40 @@ fn field(out: &mut [u8], at: usize, n: u64, b: u8) -> usize
     end + 1
 }
 
-// Writes the line of node j with its value c and its word.
+// Writes the first two columns of a line: the node's number j and its value c.
+fn columns(out: &mut [u8], at: usize, j: u64, c: u64) -> usize
+    requires { ⌜ at + 42 ≤ length (now out) ⌝ }
+    ensures { λ r. ⌜ Wrote (now (out .entry)) at (fieldText j space ++ fieldText c space) r (now (out .exit)) ⌝ }
+{
+    let next = field(out, at, j, 32);
+    field(out, next, c, 32)
+}
+
+// Writes the line of a node that has a word.
 fn row(out: &mut [u8], at: usize, j: u64, c: u64, word: u64) -> usize
     requires { ⌜ at + 63 ≤ length (now out) ⌝ }
     ensures { λ r. ⌜ Wrote (now (out .entry)) at (fieldText j space ++ fieldText c space ++ fieldText word lineFeed) r (now (out .exit)) ⌝ }
 {
-    let second = field(out, at, j, 32);
-    let third = field(out, second, c, 32);
-    field(out, third, word, 10)
+    let next = columns(out, at, j, c);
+    field(out, next, word, 10)
 }
 
-// Writes the line of the last node j, which has no word, with its value c.
+// Writes the line of the last node, which has no word.
 fn last_row(out: &mut [u8], at: usize, j: u64, c: u64) -> usize
     requires { ⌜ at + 63 ≤ length (now out) ⌝ }
     ensures { λ r. ⌜ Wrote (now (out .entry)) at (fieldText j space ++ fieldText c space ++ hyphenText) r (now (out .exit)) ⌝ }
 {
-    let second = field(out, at, j, 32);
-    let third = field(out, second, c, 32);
-    decimal::put_text(out, third, b"-\n")
+    let next = columns(out, at, j, c);
+    decimal::put_text(out, next, b"-\n")
+}
+
+// Writes a title, then n and the byte b after it.
+fn titled(out: &mut [u8], at: usize, title: &[u8], n: u64, b: u8) -> usize
+    requires { ⌜ at + length (now title) + 21 ≤ length (now out) ⌝ }
+    ensures { λ r. ⌜ Wrote (now (out .entry)) at (now (title .entry) ++ fieldText n b) r (now (out .exit)) ⌝ }
+{
+    let next = decimal::put_text(out, at, title);
+    field(out, next, n, b)
 }
 
 // Writes the first line, with the precision and the image length.
@@ -83,10 +99,8 @@ fn header(out: &mut [u8], k: Precision) -> usize
     requires { ⌜ (inRange (k .0) ≡ true) × (longestText ≤ length (now out)) ⌝ }
     ensures { λ r. ⌜ Wrote (now (out .entry)) 0 (headerText (k .0)) r (now (out .exit)) ⌝ }
 {
-    let a = decimal::put_text(out, 0, b"precision ");
-    let b = field(out, a, k.0 as u64, 32);
-    let c = decimal::put_text(out, b, b"bytes ");
-    field(out, c, k.image_length() as u64, 10)
+    let next = titled(out, 0, b"precision ", k.0 as u64, 32);
+    titled(out, next, b"bytes ", k.image_length() as u64, 10)
 }
 
 // Writes the lines of the nodes that have a word.
