@@ -1,60 +1,42 @@
 // Building the image of a precision in a lent buffer.
 ghost use mathlib.Core.Path.{_≡_};
+ghost use mathlib.Core.List.{_++_};
+ghost use Prim.Native.Nat.{ℕ, _+_, _*_, _^_, _%_, _≤_, _<_};
+ghost use lib.ListN.{length, drop};
+ghost use Rattle.quotient.specs.Quotient.{roundedUp};
+ghost use Rattle.packing.specs.Packing.{packedBytes, byteCount};
 ghost use Rattle.answers.specs.Answer.{done};
 ghost use Rattle.image.specs.Calls.{buildOutcome, buildLeaves};
 use answers::Done;
 use precision::Precision;
 
-// Writes the image of precision k at the front of the buffer; bytes past it, and every byte on a refusal, stay as found.
-pub fn build(k: Precision, image: &mut [u8]) -> Done
-    ensures { λ r. ⌜ r ≡ done (buildOutcome (k .0) (now (image .entry))) ⌝ }
-    ensures { λ r. ⌜ now (image .exit) ≡ buildLeaves (k .0) (now (image .entry)) ⌝ }
+// Takes `word` in behind the bits that wait.
+fn joined(waiting: u64, width: u32, word: u64) -> u64
+    requires { ⌜ (width < 64) × (waiting * 2 ^ width + word < 2 ^ 64) ⌝ }
+    ensures { λ r. ⌜ r ≡ waiting * 2 ^ width + word ⌝ }
 {
-    if !k.in_range() {
-        return Done {
-            number: 1,
-            place: 0,
-            value: 0,
-        };
-    }
-    if image.len() < k.image_length() {
-        return Done {
-            number: 2,
-            place: 0,
-            value: 0,
-        };
-    }
-    let p = k.0;
-    fill(
-        image,
-        2 * p + 2,
-        bits::power(p) as u32,
-        bits::power(3 * p + 3),
-        bits::power(p) as u32,
-    );
-    Done {
-        number: 0,
-        place: 0,
-        value: 0,
-    }
+    (waiting << width) + word
 }
 
-fn fill(image: &mut [u8], width: u32, count: u32, numerator: u64, first: u32) {
-    let mut acc: u64 = 0;
+// Writes `count` words of `width` bits at the front of the buffer: numerator / (first + j) rounded up, its lowest bits, for each j.
+// The bits that wait for a whole byte are kept beside the buffer, which is not read.
+fn fill(image: &mut [u8], width: u32, count: u32, numerator: u64, first: u32)
+    requires { ⌜ (1 ≤ width) × (width ≤ 56) × (first + count < 2 ^ 32) × (byteCount width count ≤ length (now image)) ⌝ }
+    ensures { λ r. ⌜ now (image .exit) ≡ packedBytes width (λ (j : ℕ). roundedUp numerator (first + j) % 2 ^ width) count ++ drop (byteCount width count) (now (image .entry)) ⌝ }
+{
+    let mut waiting: u64 = 0;
     let mut left: u32 = 0;
     let mut at: usize = 0;
     let mut j: u32 = 0;
     loop {
         if 8 <= left {
             left -= 8;
-            let byte = bits::high(acc, left);
-            image[at] = (byte % 256) as u8;
-            acc = bits::low(acc, left);
+            image[at] = (bits::high(waiting, left) % 256) as u8;
+            waiting = bits::low(waiting, left);
             at += 1;
         } else if j < count {
-            let c = quotient::rounded_up(numerator, first + j);
-            let word = bits::low(c, width);
-            acc = (acc << width) + word;
+            let word = bits::low(quotient::rounded_up(numerator, first + j), width);
+            waiting = joined(waiting, width, word);
             left += width;
             j += 1;
         } else {
@@ -62,6 +44,29 @@ fn fill(image: &mut [u8], width: u32, count: u32, numerator: u64, first: u32) {
         }
     }
     if left != 0 {
-        image[at] = ((acc << (8 - left)) % 256) as u8;
+        image[at] = (joined(waiting, 8 - left, 0) % 256) as u8;
+    }
+}
+
+// Writes the image of precision k at the front of the buffer; bytes past it, and every byte on a refusal, stay as found.
+pub fn build(k: Precision, image: &mut [u8]) -> Done
+    ensures { λ r. ⌜ r ≡ done (buildOutcome (k .0) (now (image .entry))) ⌝ }
+    ensures { λ r. ⌜ now (image .exit) ≡ buildLeaves (k .0) (now (image .entry)) ⌝ }
+{
+    let p = k.0;
+    let number = image::broken_limit(k, image.len());
+    if number != 0 {
+        return Done {
+            number,
+            place: 0,
+            value: 0,
+        };
+    }
+    let count = bits::power(p) as u32;
+    fill(image, 2 * p + 2, count, bits::power(3 * p + 3), count);
+    Done {
+        number: 0,
+        place: 0,
+        value: 0,
     }
 }

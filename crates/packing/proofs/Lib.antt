@@ -1,3 +1,7 @@
+pub mod Bits
 pub mod Bytes
 pub mod Giving
+pub mod Image
 pub mod Numbers
+pub mod Reading
+pub mod Words

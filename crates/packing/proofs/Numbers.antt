@@ -1,8 +1,8 @@
 -- Laws of `packed`: its bound, its parts, its digits, and that its digits determine it. For any width w and any word function f.
 -- Assumes nothing.
-use Prim.Native.Nat.{ℕ, zero, suc, _+_, _-_, _*_, _/_, _%_, _^_, _≤_, _<_}
-use mathlib.Core.Path.{_≡_, refl, sym, ap, ap₂, _∙_, subst}
-use native.Mathlib.Nat.{le-refl, le-step, le-trans, add-zero, zero-add, add-suc, suc-mul, zero-mul, mul-one, mod-eq-of-lt, mod-one, div-one}
+use Prim.Native.Nat.{ℕ, zero, suc, _+_, _-_, _*_, _/_, _%_, _^_, _<_}
+use mathlib.Core.Path.{_≡_, refl, sym, ap, ap₂, _∙_}
+use native.Mathlib.Nat.{le-refl, le-step, add-zero, add-suc, suc-mul, zero-mul, mul-one, mod-eq-of-lt, mod-one, div-one}
 use native.Mathlib.Omega.{arith}
 use lib.Arith.{digits-lt}
 use lib.Pow.{pow-pos, pow-add, high, low, shr-shr, mod-pow-add}

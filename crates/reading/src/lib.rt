@@ -10,21 +10,16 @@ use units::TableUnits;
 pub fn node(k: Precision, image: &[u8], j: u32) -> NodeRead
     ensures { λ r. ⌜ r ≡ nodeRead (nodeOutcome (k .0) (now (image .entry)) j) ⌝ }
 {
-    if !k.in_range() {
+    let number = image::broken_limit(k, image.len());
+    if number != 0 {
         return NodeRead {
-            number: 1,
+            number,
             place: 0,
             value: TableUnits(0),
         };
     }
-    if image.len() < k.image_length() {
-        return NodeRead {
-            number: 2,
-            place: 0,
-            value: TableUnits(0),
-        };
-    }
-    let count = bits::power(k.0) as u32;
+    let p = k.0;
+    let count = bits::power(p) as u32;
     if count < j {
         return NodeRead {
             number: 3,
@@ -36,10 +31,11 @@ pub fn node(k: Precision, image: &[u8], j: u32) -> NodeRead
         return NodeRead {
             number: 0,
             place: 0,
-            value: TableUnits(bits::power(2 * k.0 + 2)),
+            value: TableUnits(bits::power(2 * p + 2)),
         };
     }
-    let c = nodes::judge(k, j, packing::word(image, k.word_width() as u32, j));
+    let word = packing::word(image, 2 * p + 2, j);
+    let c = nodes::judge(k, j, word);
     if c.0 == 0 {
         return NodeRead {
             number: 6,
@@ -54,17 +50,16 @@ pub fn node(k: Precision, image: &[u8], j: u32) -> NodeRead
     }
 }
 
-// The bytes of the image that hold the word of node j, or an empty part. It does not judge the word.
+// The bytes of the image that hold the word of node j, or an empty part. The word is not judged.
 pub fn word_bytes(k: Precision, image: &[u8], j: u32) -> &[u8]
     ensures { λ r. ⌜ now r ≡ shownPart (k .0) (now (image .entry)) j ⌝ }
 {
-    if !k.in_range() {
+    let number = image::broken_limit(k, image.len());
+    if number != 0 {
         return &image[..0];
     }
-    if image.len() < k.image_length() {
-        return &image[..0];
-    }
-    let count = bits::power(k.0) as u32;
+    let p = k.0;
+    let count = bits::power(p) as u32;
     if count <= j {
         return &image[..0];
     }

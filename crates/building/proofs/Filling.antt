@@ -1,0 +1,136 @@
+-- The state of a buffer that is being filled with packed words, for any width, any word function and any number of words:
+-- what is written is the whole bytes of the words taken in so far, and the bits that wait are the rest.
+-- Assumes nothing.
+use mathlib.Core.Path.{_≡_, refl, sym, _∙_, ap}
+use mathlib.Core.List.{List, [], _∷_, _++_, append-assoc}
+use Prim.Native.Nat.{ℕ, zero, suc, _+_, _-_, _*_, _/_, _%_, _^_, _≤_, _<_}
+use native.Mathlib.Nat.{mod-lt, lt-of-lt-of-le, mul-le-mul-right, mod-eq-of-lt, mod-one, div-one, suc-mul, add-zero, mul-one}
+use native.Mathlib.Numerals.{add-one}
+use native.Mathlib.Omega.{arith}
+use lib.Arith.{digits-lt}
+use lib.ListN.{length, drop, set, getD, length-append, length-drop}
+use lib.Pow.{pow-add, pow-mono, pow-pos}
+use lib.Seq.{set-at, drop-cons}
+use Rattle.packing.specs.Packing.{packed, toBytes, byteCount, fillBits, packedBytes}
+use Rattle.packing.proofs.Bytes.{length-toBytes}
+use Rattle.packing.proofs.Giving.{take-high, take-low, give-byte, give-small, give-rest, give-last, last-small}
+
+-- of n words, j are taken in: `at` bytes of them are written over the buffer's first list, and `left` bits wait
+pub record Filling (w n : ℕ) (f : ℕ → ℕ) (before now : List ℕ) (waiting left at j : ℕ) : Type 0 where
+  pub taken : j ≤ n
+  pub room : byteCount w n ≤ length before
+  pub place : 8 * at + left ≡ j * w
+  pub short : left < 8 + w
+  pub bits : waiting ≡ packed w f j % 2 ^ left
+  pub bytes : now ≡ toBytes at (packed w f j / 2 ^ left) ++ drop at before
+
+-- at first nothing is taken in
+pub start : (w n : ℕ) (f : ℕ → ℕ) (s : List ℕ) → byteCount w n ≤ length s → Filling w n f s s 0 0 0 0
+start w n f s h =
+    record { taken = omega arith; room = h; place = omega arith; short = omega arith; bits = refl; bytes = refl }
+
+-- one byte more behind those written
+write-next : (t before : List ℕ) (at b : ℕ) → length t ≡ at → at < length before → set (t ++ drop at before) at b ≡ (t ++ (b ∷ [])) ++ drop (at + 1) before
+write-next t before at b e h =
+    ap (λ (l : List ℕ). set (t ++ l) at b) (drop-cons before at 0 h)
+    ∙ set-at t (getD before at 0) (drop (suc at) before) b at e
+    ∙ sym (append-assoc t (b ∷ []) (drop (suc at) before))
+    ∙ ap (λ (i : ℕ). (t ++ (b ∷ [])) ++ drop i before) (sym (add-one at))
+
+module _ {w n : ℕ} {f : ℕ → ℕ} {before now : List ℕ} {waiting left at j : ℕ} (s : Filling w n f before now waiting left at j) where
+  -- a whole byte has its place in the buffer
+  pub has-room : 8 ≤ left → at < length before
+  has-room h = omega (arith, mul-le-mul-right w (s .taken), s .place, s .room)
+
+  -- the bytes written lie within the buffer, whose length stays
+  within : at ≤ length before
+  within = omega (arith, mul-le-mul-right w (s .taken), s .place, s .room)
+
+  pub kept : length now ≡ length before
+  kept =
+      ap length (s .bytes)
+      ∙ length-append (toBytes at (packed w f j / 2 ^ left)) (drop at before)
+      ∙ omega (arith, length-toBytes at (packed w f j / 2 ^ left), length-drop at before, within)
+
+  -- what waits has its bits and no more
+  waits : waiting < 2 ^ left
+  waits = rw (s .bits) (mod-lt (packed w f j) (pow-pos left))
+
+  -- a word behind what waits has a place in 64 bits
+  pub joined-fits : (v m : ℕ) → v < 2 ^ m → left + m ≤ 64 → waiting * 2 ^ m + v < 2 ^ 64
+  joined-fits v m h b = lt-of-lt-of-le (rw (pow-add 2 left m) (digits-lt waits h)) (pow-mono b)
+
+  -- whole bytes are given out from the front of what waits
+  pub give : 8 ≤ left → Filling w n f before (set now at (waiting / 2 ^ (left - 8) % 256)) (waiting % 2 ^ (left - 8)) (left - 8) (at + 1) j
+  give h =
+      record {
+        taken = s .taken;
+        room = s .room;
+        place = omega (arith, s .place);
+        short = omega (arith, s .short);
+        bits = ap (λ (x : ℕ). x % 2 ^ (left - 8)) (s .bits) ∙ give-rest (packed w f j) left h;
+        bytes =
+            ap (λ (l : List ℕ). set l at (waiting / 2 ^ (left - 8) % 256)) (s .bytes)
+            ∙ write-next (toBytes at (packed w f j / 2 ^ left)) before at (waiting / 2 ^ (left - 8) % 256) (length-toBytes at _) (has-room h)
+            ∙ ap (λ (l : List ℕ). l ++ drop (at + 1) before)
+            (ap (λ (b : ℕ). toBytes at (packed w f j / 2 ^ left) ++ (b ∷ []))
+            (ap (λ (x : ℕ). x / 2 ^ (left - 8) % 256) (s .bits) ∙ mod-eq-of-lt (give-small (packed w f j) left h))
+            ∙ sym (give-byte at (packed w f j) left h));
+      }
+
+  -- a word is taken in behind what waits
+  pub take : (v : ℕ) → v ≡ f j → v < 2 ^ w → left < 8 → j < n → Filling w n f before now (waiting * 2 ^ w + v) (left + w) at (j + 1)
+  take v e h l k =
+      record {
+        taken = omega arith;
+        room = s .room;
+        place = omega (arith, s .place);
+        short = omega arith;
+        bits =
+            ap (λ (x : ℕ). x * 2 ^ w + v) (s .bits) ∙ sym (take-low (packed w f j) v w left h) ∙ ap (λ (x : ℕ). x % 2 ^ (left + w)) next;
+        bytes =
+            s .bytes
+            ∙ ap (λ (x : ℕ). toBytes at x ++ drop at before)
+            (sym (take-high (packed w f j) v w left h) ∙ ap (λ (x : ℕ). x / 2 ^ (left + w)) next);
+      }
+    where
+      next : packed w f j * 2 ^ w + v ≡ packed w f (j + 1)
+      next = ap (λ (x : ℕ). packed w f j * 2 ^ w + x) e ∙ sym (ap (packed w f) (add-one j))
+
+  all-taken : n ≤ j → j ≡ n
+  all-taken h = omega (arith, s .taken)
+
+  -- all words are taken in and nothing waits: the buffer holds them
+  pub finish : n ≤ j → left ≡ 0 → now ≡ packedBytes w f n ++ drop (byteCount w n) before
+  finish h e =
+      let ends : 8 * at ≡ n * w = omega (arith, s .place, ap (λ (x : ℕ). x * w) (all-taken h)) in
+      let fills : 0 ≡ fillBits w n = omega arith in
+      let whole : at ≡ byteCount w n = omega arith in
+      s .bytes
+      ∙ ap (λ (x : ℕ). toBytes at x ++ drop at before)
+      (ap (λ (x : ℕ). packed w f j / 2 ^ x) e
+      ∙ div-one (packed w f j)
+      ∙ ap (packed w f) (all-taken h)
+      ∙ sym (mul-one (packed w f n))
+      ∙ ap (λ (x : ℕ). packed w f n * 2 ^ x) fills)
+      ∙ ap (λ (x : ℕ). toBytes x (packed w f n * 2 ^ fillBits w n) ++ drop x before) whole
+
+  -- all words are taken in and a part of a byte waits: it is the last byte
+  pub part-has-room : n ≤ j → (left ≡ 0 → ⊥) → at < length before
+  part-has-room h z = omega (arith, s .place, s .room, ap (λ (x : ℕ). x * w) (all-taken h), z)
+
+  pub finish-part : n ≤ j → left < 8 → (left ≡ 0 → ⊥) → set now at ((waiting * 2 ^ (8 - left) + 0) % 256) ≡ packedBytes w f n ++ drop (byteCount w n) before
+  finish-part h l z =
+      let ends : 8 * at + left ≡ n * w = omega (arith, s .place, ap (λ (x : ℕ). x * w) (all-taken h)) in
+      let fills : 8 - left ≡ fillBits w n = omega (arith, z) in
+      let whole : at + 1 ≡ byteCount w n = omega (arith, z) in
+      ap (λ (m : List ℕ). set m at ((waiting * 2 ^ (8 - left) + 0) % 256)) (s .bytes)
+      ∙ write-next (toBytes at (packed w f j / 2 ^ left)) before at ((waiting * 2 ^ (8 - left) + 0) % 256) (length-toBytes at _) (part-has-room h z)
+      ∙ ap (λ (m : List ℕ). m ++ drop (at + 1) before)
+      (ap (λ (b : ℕ). toBytes at (packed w f j / 2 ^ left) ++ (b ∷ []))
+      (ap (λ (x : ℕ). x % 256) (add-zero (waiting * 2 ^ (8 - left)) ∙ ap (λ (x : ℕ). x * 2 ^ (8 - left)) (s .bits))
+      ∙ mod-eq-of-lt (last-small (packed w f j) left l))
+      ∙ sym (give-last at (packed w f j) left l)
+      ∙ ap (λ (x : ℕ). toBytes (at + 1) (packed w f x * 2 ^ (8 - left))) (all-taken h)
+      ∙ ap (λ (x : ℕ). toBytes (at + 1) (packed w f n * 2 ^ x)) fills)
+      ∙ ap (λ (x : ℕ). toBytes x (packed w f n * 2 ^ fillBits w n) ++ drop x before) whole

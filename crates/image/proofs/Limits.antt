@@ -1,0 +1,75 @@
+-- What the limits of k and the buffer mean for every list of refusals that begins with them.
+-- Assumes nothing.
+use mathlib.Core.Path.{_≡_, refl, sym, _∙_, ap}
+use mathlib.Core.Bool.{Bool, true, false, cond, not, _||_}
+use mathlib.Core.List.{List, [], _∷_}
+use Prim.Native.Nat.{ℕ, _≤_}
+use native.Mathlib.Omega.{arith}
+use lib.Dec.{ltb}
+use lib.ListN.{length}
+use borrow.Author.Tests.{ltb-false}
+use Rattle.precision.specs.Precision.{inRange, imageLength}
+use Rattle.precision.proofs.Range.{in-range}
+use Rattle.answers.specs.Refusal.{Refusal, Outcome, outcome}
+use Rattle.image.specs.Refusals.{precisionRefusal, bufferRefusal, brokenLimit}
+use Rattle.image.specs.Calls.{noImage}
+
+-- the answer that a broken limit of number n gives
+abbrev pub limited : ℕ → Outcome
+limited n = record { number = n; place = 0; value = 0 }
+
+-- both limits are kept: k is a precision and the buffer is long enough
+pub record Kept (k : ℕ) (s : List ℕ) : Type 0 where
+  pub low : 1 ≤ k
+  pub high : k ≤ 12
+  pub long : imageLength k ≤ length s
+
+-- by the tests of the two limits
+abbrev numberOf : Bool → Bool → ℕ
+numberOf a b = cond a 1 (cond b 2 0)
+
+answer-of : (a b : Bool) (rs : List Refusal) (v : ℕ) → (numberOf a b ≡ 0 → ⊥)
+    → outcome (record { applies = a; number = 1; place = 0 } ∷ record { applies = b; number = 2; place = 0 } ∷ rs) v ≡ limited (numberOf a b)
+answer-of true b rs v h = refl
+answer-of false true rs v h = refl
+answer-of false false rs v h = absurd (h refl)
+
+rest-of : (a b : Bool) (rs : List Refusal) (v : ℕ) → numberOf a b ≡ 0
+    → outcome (record { applies = a; number = 1; place = 0 } ∷ record { applies = b; number = 2; place = 0 } ∷ rs) v ≡ outcome rs v
+rest-of true b rs v h = absurd (omega (arith, h))
+rest-of false true rs v h = absurd (omega (arith, h))
+rest-of false false rs v h = refl
+
+broken-of : (a b : Bool) → (numberOf a b ≡ 0 → ⊥) → (a || b) ≡ true
+broken-of true b h = refl
+broken-of false true h = refl
+broken-of false false h = absurd (h refl)
+
+kept-of : (r b : Bool) → numberOf (not r) b ≡ 0 → (r ≡ true) × (b ≡ false)
+kept-of false b h = absurd (omega (arith, h))
+kept-of true true h = absurd (omega (arith, h))
+kept-of true false h = (refl, refl)
+
+module _ (k : ℕ) (s : List ℕ) where
+  -- a broken limit turns every call back
+  pub limit-refuses : (rs : List Refusal) (v : ℕ) → (brokenLimit k (length s) ≡ 0 → ⊥) → outcome (precisionRefusal k ∷ bufferRefusal k s ∷ rs) v ≡ limited (brokenLimit k (length s))
+  limit-refuses rs v = answer-of (not (inRange k)) (ltb (length s) (imageLength k)) rs v
+
+  pub limit-no-image : (brokenLimit k (length s) ≡ 0 → ⊥) → noImage k s ≡ true
+  limit-no-image = broken-of (not (inRange k)) (ltb (length s) (imageLength k))
+
+  -- where both are kept the later refusals decide
+  pub limit-passes : (rs : List Refusal) (v : ℕ) → brokenLimit k (length s) ≡ 0 → outcome (precisionRefusal k ∷ bufferRefusal k s ∷ rs) v ≡ outcome rs v
+  limit-passes rs v = rest-of (not (inRange k)) (ltb (length s) (imageLength k)) rs v
+
+  pub limit-kept : brokenLimit k (length s) ≡ 0 → Kept k s
+  limit-kept h =
+      let e = kept-of (inRange k) (ltb (length s) (imageLength k)) h in
+      record {
+        low = in-range k (e .0) .0;
+        high = in-range k (e .0) .1;
+        long = ltb-false (length s) (imageLength k) (e .1);
+      }
+
+  pub limit-image : brokenLimit k (length s) ≡ 0 → noImage k s ≡ false
+  limit-image h = let e = kept-of (inRange k) (ltb (length s) (imageLength k)) h in rw (e .0, e .1)
