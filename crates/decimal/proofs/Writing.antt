@@ -74,3 +74,7 @@ wrote-byte {s} {at} {t} {r} {o} b h w =
       place = omega (arith, w .place, length-append t (b ∷ []));
       bytes = ap (λ (x : List ℕ). set x r b) (w .bytes) ∙ ap (λ (p : ℕ). set (written s at t) p b) (w .place) ∙ written-snoc s at t b h
     }
+
+-- no text was written, at any place, where nothing was changed
+pub wrote-none : (s : List ℕ) (at : ℕ) → Wrote s at [] at s
+wrote-none s at = record { place = omega arith; bytes = sym (written-none s at) }

@@ -5,9 +5,8 @@ use mathlib.Core.Bool.{Bool, true, false, cond, _&&_}
 use mathlib.Core.List.{List, [], _∷_, _++_}
 use Prim.Native.Nat.{ℕ, zero, suc, _+_, _*_, _/_, _%_, _^_, _≤_, _<_}
 use native.Mathlib.Nat.{mul-le-mul, mod-lt, mul-one}
-use native.Mathlib.Numerals.{add-one}
 use native.Mathlib.Omega.{arith}
-use borrow.Author.Tests.{leb-true, ne-eqb, eq-eqb}
+use borrow.Author.Tests.{leb-true}
 use lib.Dec.{leb, eqb}
 use lib.ListN.{length, length-append}
 use lib.Pow.{pow-pos, pow-mono}
@@ -78,23 +77,13 @@ unfolding lines
 lines-most k zero e h = omega arith
 lines-most k (suc n) e h = rw length-append (omega (arith, lines-most k n e (omega arith), line-most k n e (omega arith)))
 
--- one more line
-pub lines-more : (k n : ℕ) → lines k (n + 1) ≡ lines k n ++ line k n
-unfolding lines
-lines-more k n = rw add-one
-
--- no line yet
-pub lines-none : (k : ℕ) → lines k 0 ≡ []
-unfolding lines
-lines-none k = refl
-
 -- the first line has at most 32 bytes
 pub header-most : (k : ℕ) → inRange k ≡ true → length (header k) ≤ 32
 unfolding header
 header-most k e =
     let r = range k e in
     let bytes : imageLength k < 10 ^ 5 = omega (arith, mul-le-mul (count-most k e) (wide r)) in
-    rw (length-append, length-append, length-append)
+    simp length-append
     (omega (arith, field-below 2 k space (omega arith) (omega (arith, r .1)), field-below 5 (imageLength k) lineFeed (omega arith) bytes))
   where
     wide : (1 ≤ k) × (k ≤ 12) → wordWidth k ≤ 26
