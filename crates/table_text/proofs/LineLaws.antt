@@ -1,15 +1,15 @@
--- The lines of a table from what the calls give: values and words in range, and one line after the other.
+-- The lines of a table from what the calls give: values and words in range, and one line after the other; which text an input has.
 -- Assumes nothing.
 use mathlib.Core.Path.{_≡_, refl}
-use mathlib.Core.Bool.{true}
-use mathlib.Core.List.{[], _++_}
+use mathlib.Core.Bool.{true, false}
+use mathlib.Core.List.{List, [], _++_}
 use Prim.Native.Nat.{ℕ, _+_, _^_, _≤_, _<_}
 use native.Mathlib.Numerals.{add-one}
 use native.Mathlib.Omega.{arith}
 use borrow.Author.Tests.{le-leb, lt-ltb, eq-eqb, ne-eqb}
 use Rattle.precision.specs.Precision.{inRange}
 use Rattle.nodes.specs.Nodes.{node, storedWord, nodeOr0, wordOr0}
-use Rattle.table_text.specs.TableText.{field, line, lines, space, lineFeed, hyphenText}
+use Rattle.table_text.specs.TableText.{field, line, lines, space, lineFeed, hyphenText, precisionOf, textFor, tableText, refusedText}
 
 -- no line yet, and one line more
 pub lines-none : (k : ℕ) → lines k 0 ≡ []
@@ -36,3 +36,12 @@ module _ (k j : ℕ) (served : inRange k ≡ true) where
   pub line-last : {c : ℕ} → j ≡ 2 ^ k → c ≡ nodeOr0 k j → field j space ++ field c space ++ hyphenText ≡ line k j
   unfolding line
   line-last {c} h p = rw (p, value-in (omega arith), eq-eqb j (2 ^ k) h)
+
+-- the text of an input, by whether the precision that it orders is in range
+pub text-refused : (s : List ℕ) → inRange (precisionOf s) ≡ false → tableText s ≡ refusedText
+unfolding tableText
+text-refused s e = rw e
+
+pub text-table : (s : List ℕ) → inRange (precisionOf s) ≡ true → tableText s ≡ textFor true (precisionOf s)
+unfolding tableText
+text-table s e = rw e

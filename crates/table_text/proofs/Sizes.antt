@@ -6,12 +6,13 @@ use mathlib.Core.List.{List, [], _∷_, _++_}
 use Prim.Native.Nat.{ℕ, zero, suc, _+_, _*_, _/_, _%_, _^_, _≤_, _<_}
 use native.Mathlib.Nat.{mul-le-mul, mod-lt, mul-one}
 use native.Mathlib.Omega.{arith}
-use borrow.Author.Tests.{leb-true}
+use borrow.Author.Tests.{leb-true, lt-ltb}
 use lib.Dec.{leb, eqb}
 use lib.ListN.{length, length-append}
 use lib.Pow.{pow-pos, pow-mono}
 use Rattle.decimal.specs.Decimal.{decimal}
 use Rattle.decimal.proofs.Laws.{length-decimal, length-decimal-below}
+use Rattle.bits.specs.Bits.{powerOr0}
 use Rattle.precision.specs.Precision.{inRange, wordWidth, imageLength}
 use Rattle.quotient.specs.Quotient.{roundedUp}
 use Rattle.quotient.proofs.Laws.{exact, antitone}
@@ -30,6 +31,9 @@ range k e = go (leb 1 k) (leb k 12) refl refl e
 -- so its table has at most 4096 words
 pub count-most : (k : ℕ) → inRange k ≡ true → 2 ^ k ≤ 4096
 count-most k e = pow-mono {i = k} {j = 12} (range k e .1)
+
+pub power-in : (k : ℕ) → inRange k ≡ true → powerOr0 k ≡ 2 ^ k
+power-in k e = rw (lt-ltb k 64 (omega (arith, range k e .1)))
 
 -- a number and the byte after it
 pub length-field : (n b : ℕ) → length (field n b) ≡ length (decimal n) + 1
