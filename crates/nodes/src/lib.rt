@@ -4,7 +4,7 @@ mod eight;
 pub use eight::NODES_8;
 pub use eight::node_8;
 ghost use mathlib.Core.Path.{_≡_};
-ghost use Prim.Native.Nat.{_^_, _<_};
+ghost use Prim.Native.Nat.{_+_, _*_, _^_, _<_, _≤_};
 ghost use Rattle.nodes.specs.Nodes.{nodeOr0, wordOr0, judged, decodeBelow};
 use precision::Precision;
 use units::TableUnits;
@@ -17,11 +17,11 @@ pub fn value(k: Precision, j: u32) -> TableUnits
         return TableUnits(0);
     }
     let p = k.0;
-    let first = bits::power(p) as u32;
-    if first < j {
+    let count = words(p);
+    if count < j {
         return TableUnits(0);
     }
-    TableUnits(quotient::rounded_up(bits::power(3 * p + 3), first + j))
+    TableUnits(quotient::rounded_up(numerator(p), count + j))
 }
 
 // The word that is stored for node j at precision k, 0 where node j has none.
@@ -32,14 +32,14 @@ pub fn word(k: Precision, j: u32) -> u64
         return 0;
     }
     let p = k.0;
-    let first = bits::power(p) as u32;
-    if first <= j {
+    let count = words(p);
+    if count <= j {
         return 0;
     }
     if j == 0 {
         return 0;
     }
-    quotient::rounded_up(bits::power(3 * p + 3), first + j) - bits::power(2 * p + 2)
+    quotient::rounded_up(numerator(p), count + j) - lead(p)
 }
 
 // The value of a word that is right at node j, 0 for a wrong word and where node j has none. It multiplies and does not divide.
@@ -50,16 +50,16 @@ pub fn judge(k: Precision, j: u32, word: u64) -> TableUnits
         return TableUnits(0);
     }
     let p = k.0;
-    let first = bits::power(p) as u32;
-    if first <= j {
+    let count = words(p);
+    if count <= j {
         return TableUnits(0);
     }
-    let lead = bits::power(2 * p + 2);
-    if lead <= word {
+    let one = lead(p);
+    if one <= word {
         return TableUnits(0);
     }
-    let c = decoded(lead, j, word);
-    if quotient::rounds_up(bits::power(3 * p + 3), first + j, c as u32) {
+    let c = decoded(one, j, word);
+    if quotient::rounds_up(numerator(p), count + j, c as u32) {
         TableUnits(c)
     } else {
         TableUnits(0)
@@ -78,4 +78,28 @@ fn decoded(lead: u64, j: u32, word: u64) -> u64
         return lead + word;
     }
     2 * lead
+}
+
+// How many words a table has, 2^k.
+fn words(p: u32) -> u32
+    requires { ⌜ p ≤ 12 ⌝ }
+    ensures { λ r. ⌜ r ≡ 2 ^ p ⌝ }
+{
+    bits::power(p) as u32
+}
+
+// The leading one that a word leaves out, 2^(2k+2).
+fn lead(p: u32) -> u64
+    requires { ⌜ p ≤ 12 ⌝ }
+    ensures { λ r. ⌜ r ≡ 2 ^ (2 * p + 2) ⌝ }
+{
+    bits::power(2 * p + 2)
+}
+
+// What is divided to give a node, 2^(3k+3).
+fn numerator(p: u32) -> u64
+    requires { ⌜ p ≤ 12 ⌝ }
+    ensures { λ r. ⌜ r ≡ 2 ^ (3 * p + 3) ⌝ }
+{
+    bits::power(3 * p + 3)
 }

@@ -1,0 +1,28 @@
+-- `nodes::decoded` meets its contract: each return answers the tests that led there.
+-- Assumes nothing.
+use borrow.Author.Needs.{needs}
+use borrow.Author.Tests.{eq-eqb, ne-eqb}
+use mathlib.Core.Bool.{and-false}
+use Rattle.nodes.proofs.decoded.Statement.{statement}
+use Rattle.nodes.proofs.decoded.Tie as tie
+
+add-result : tie.Need-add-result
+add-result c = search needs
+
+returns : tie.Need-returns
+returns c = simp (ne-eqb _ _ (c .if1 .taken))
+
+add-result-2 : tie.Need-add-result-2
+add-result-2 c = search needs
+
+returns-2 : tie.Need-returns-2
+returns-2 c = simp (ne-eqb _ _ (c .if2 .taken), and-false)
+
+mul-result : tie.Need-mul-result
+mul-result c = search needs
+
+returns-3 : tie.Need-returns-3
+returns-3 c = simp (eq-eqb _ _ (c .before .if1 .left), eq-eqb _ _ (c .if2 .left))
+
+pub decoded-spec : {M : Type 1} → statement M
+decoded-spec = tie.close (tie.spec add-result returns add-result-2 returns-2 mul-result returns-3)
