@@ -17,7 +17,7 @@ use Rattle.precision.specs.Precision.{inRange, wordWidth, imageLength}
 use Rattle.quotient.specs.Quotient.{roundedUp}
 use Rattle.quotient.proofs.Laws.{exact, antitone}
 use Rattle.nodes.specs.Nodes.{node, storedWord}
-use Rattle.table_text.specs.TableText.{field, wordField, line, lines, header, textFor, tableText, precisionOf, longestText, space, lineFeed, hyphenText}
+use Rattle.table_text.specs.TableText.{field, wordField, line, lines, header, textFor, tableText, precisionOf, longestText, printedLength, space, lineFeed, hyphenText}
 
 -- a precision in range is 1 to 12
 pub range : (k : ℕ) → inRange k ≡ true → (1 ≤ k) × (k ≤ 12)
@@ -102,4 +102,13 @@ text-fits s = go (inRange (precisionOf s)) refl
     go true e =
         let k = precisionOf s in
         rw length-append (omega (arith, header-most k e, count-most k e, lines-most k (2 ^ k + 1) e (omega arith)))
+    go false e = omega arith
+
+-- so what is printed lies within the buffer
+pub printed-within : (input s : List ℕ) {r : ℕ} → r ≡ printedLength input s → r ≤ length s
+unfolding printedLength
+printed-within input s p = omega (arith, p, go (leb longestText (length s)) refl)
+  where
+    go : (x : Bool) → leb longestText (length s) ≡ x → cond x (length (tableText input)) 0 ≤ length s
+    go true e = omega (arith, text-fits input, leb-true longestText (length s) e)
     go false e = omega arith

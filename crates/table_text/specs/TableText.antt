@@ -83,9 +83,9 @@ abbrev pub hasTextRoom : List ℕ → Bool
 hasTextRoom s = leb longestText (length s)
 
 -- a buffer s after printing: the text at its front, and every byte as found where there is no room
-abbrev pub printed : List ℕ → List ℕ → List ℕ
+unfoldable pub printed : List ℕ → List ℕ → List ℕ
 printed input s = cond (hasTextRoom s) (written s 0 (tableText input)) s
 
 -- how many bytes were written at its front
-abbrev pub printedLength : List ℕ → List ℕ → ℕ
+unfoldable pub printedLength : List ℕ → List ℕ → ℕ
 printedLength input s = cond (hasTextRoom s) (length (tableText input)) 0

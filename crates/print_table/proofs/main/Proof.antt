@@ -1,3 +1,9 @@
+-- `print_table::main` meets its contract: what is printed lies within the buffer.
+-- Assumes nothing.
+use mathlib.Core.Path.{sym}
+use native.Mathlib.Omega.{arith}
+use lib.Seq.{length-take-le}
+use Rattle.table_text.proofs.Sizes.{printed-within}
 use borrow.Author.Needs.{needs}
 use Rattle.print_table.proofs.main.Statement.{statement}
 use Rattle.print_table.proofs.main.Tie as tie
@@ -33,11 +39,13 @@ print-requires c κs = search needs
 
 -- src/main.rt:11:34
 array-share-prefix-text : tie.Need-array-share-prefix-text
-array-share-prefix-text c = ?
+array-share-prefix-text c =
+    omega (arith, printed-within _ _ (c .before .print .ensures .0), c .before .print .kept .1 .0)
 
 -- src/main.rt:11:34
 slice-aggregate-write-all : tie.Need-slice-aggregate-write-all
-slice-aggregate-write-all c = ?
+slice-aggregate-write-all c =
+    sym (length-take-le (c .before .before .print .result) (c .before .before .print .last .1 .0) (omega (arith, printed-within _ _ (c .before .before .print .ensures .0), c .before .before .print .kept .1 .0)))
 
 -- src/main.rt:11:5
 write-all-requires : tie.Need-write-all-requires

@@ -7,7 +7,7 @@ use borrow.Author.Tests.{le-leb, lt-leb, not-true, not-false}
 use lib.ListN.{length}
 use Rattle.decimal.proofs.Writing.{wrote-room}
 use Rattle.precision.specs.Precision.{inRange}
-use Rattle.table_text.specs.TableText.{longestText, precisionOf, refusedText}
+use Rattle.table_text.specs.TableText.{longestText, precisionOf, refusedText, printed, printedLength}
 use Rattle.table_text.proofs.LineLaws.{text-refused, text-table}
 use borrow.Author.Needs.{needs}
 use Rattle.table_text.proofs.print.Statement.{statement}
@@ -21,6 +21,7 @@ use Rattle.table_text.proofs.table.Reads as table-reads
 
 -- src/lib.rt:128:9
 returns : tie.Need-returns
+unfolding printed printedLength
 returns c =
     rw (lt-leb longestText (length (c .before .before .before .args .out .now)) (c .if1 .taken)) (refl, (refl, refl))
 
@@ -46,6 +47,7 @@ same-length c = search needs
 
 -- src/lib.rt:132:9
 returns-2 : tie.Need-returns-2
+unfolding printed printedLength
 returns-2 c =
     let a = c .before .before .before .before .before .before .before .before .before .before .before .args in
     let shut : inRange (precisionOf (a .input .now)) ≡ false =
@@ -64,6 +66,7 @@ same-length-2 c = search needs
 
 -- src/lib.rt:122:1
 returns-3 : tie.Need-returns-3
+unfolding printed printedLength
 returns-3 c =
     let a = c .before .before .before .before .before .before .before .before .before .before .args in
     let served : inRange (precisionOf (a .input .now)) ≡ true =
