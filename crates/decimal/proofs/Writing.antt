@@ -64,7 +64,7 @@ pub wrote-more : {s : List ℕ} {at : ℕ} {t : List ℕ} {p : ℕ} {o u : List 
 wrote-more {s} {at} {t} {p} {o} {u} {q} {o'} h a b =
     record {
       place = b .place ∙ ap (λ (n : ℕ). n + length u) (a .place) ∙ add-assoc at (length t) (length u) ∙ ap (λ (n : ℕ). at + n) (sym (length-append t u));
-      bytes = b .bytes ∙ ap (λ (x : List ℕ). written x p u) (a .bytes) ∙ ap (λ (n : ℕ). written (written s at t) n u) (a .place) ∙ written-more s at t h u
+      bytes = b .bytes ∙ ap (λ (x : List ℕ). written x p u) (a .bytes) ∙ ap (λ (n : ℕ). written (written s at t) n u) (a .place) ∙ written-more s at t h u;
     }
 
 -- a store at the place that a call gave is one byte more of its text
@@ -72,7 +72,7 @@ pub wrote-byte : {s : List ℕ} {at : ℕ} {t : List ℕ} {r : ℕ} {o : List �
 wrote-byte {s} {at} {t} {r} {o} b h w =
     record {
       place = omega (arith, w .place, length-append t (b ∷ []));
-      bytes = ap (λ (x : List ℕ). set x r b) (w .bytes) ∙ ap (λ (p : ℕ). set (written s at t) p b) (w .place) ∙ written-snoc s at t b h
+      bytes = ap (λ (x : List ℕ). set x r b) (w .bytes) ∙ ap (λ (p : ℕ). set (written s at t) p b) (w .place) ∙ written-snoc s at t b h;
     }
 
 -- no text was written, at any place, where nothing was changed

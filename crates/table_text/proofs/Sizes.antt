@@ -72,8 +72,12 @@ pub line-most : (k j : ℕ) → inRange k ≡ true → j ≤ 2 ^ k → length (l
 unfolding line
 line-most k j e h =
     rw (length-append, length-append)
-    (omega (arith, field-below 4 j space (omega arith) (omega (arith, count-most k e)),
-    field-below 12 (node k j) space (omega arith) (node-below k j e), word-most k j e))
+    (omega (
+      arith,
+      field-below 4 j space (omega arith) (omega (arith, count-most k e)),
+      field-below 12 (node k j) space (omega arith) (node-below k j e),
+      word-most k j e,
+    ))
 
 -- and the lines of n nodes 27 for each
 pub lines-most : (k n : ℕ) → inRange k ≡ true → n ≤ 2 ^ k + 1 → length (lines k n) ≤ 27 * n

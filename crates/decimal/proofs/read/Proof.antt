@@ -19,11 +19,11 @@ abbrev μ-loop : tie.MeasureT-loop
 
 -- src/lib.rt:23:9
 returns : tie.Need-returns Inv-loop μ-loop
-returns c = sym (reading-none (c .before .args .s .now) (c .if1 .taken))
+returns c = sym (reading-none (c .before .args .s .now) (omega arith))
 
 -- src/lib.rt:27:5
 loop-holds : tie.Need-loop-holds Inv-loop μ-loop
-loop-holds c = (omega arith, omega arith, reading-some (c .before .args .s .now) (c .if1 .left))
+loop-holds c = (omega arith, omega arith, reading-some (c .before .args .s .now) (omega arith))
 
 -- src/lib.rt:28:17
 shared-slice-read-b : tie.Need-shared-slice-read-b Inv-loop μ-loop
@@ -34,14 +34,14 @@ returns-2 : tie.Need-returns-2 Inv-loop μ-loop
 returns-2 c =
     let l = c .before .before .before .loop in
     sym (l .inv .2
-    ∙ at-low (c .before .before .before .before .before .args .s .now) (l .value) (l .at) (c .before .before .loop-test .taken) (c .if2 .taken))
+    ∙ at-low (c .before .before .before .before .before .args .s .now) (l .value) (l .at) (c .before .before .loop-test .taken) (omega arith))
 
 -- src/lib.rt:33:13
 returns-3 : tie.Need-returns-3 Inv-loop μ-loop
 returns-3 c =
     let l = c .before .before .before .before .loop in
     sym (l .inv .2
-    ∙ at-high (c .before .before .before .before .before .before .args .s .now) (l .value) (l .at) (c .before .before .before .loop-test .taken) (c .if3 .taken))
+    ∙ at-high (c .before .before .before .before .before .before .args .s .now) (l .value) (l .at) (c .before .before .before .loop-test .taken) (omega arith))
 
 -- src/lib.rt:35:21
 cast-digit : tie.Need-cast-digit Inv-loop μ-loop
@@ -57,7 +57,7 @@ returns-4 c =
     let l = c .before .before .before .before .before .loop in
     sym (l .inv .2
     ∙ at-over (c .before .before .before .before .before .before .before .args .s .now) (l .value) (l .at)
-    (c .before .before .before .before .loop-test .taken) (c .before .before .if2 .left) (c .before .if3 .left) (omega arith))
+    (c .before .before .before .before .loop-test .taken) (omega arith) (omega arith) (omega arith))
 
 -- src/lib.rt:39:17
 mul-value : tie.Need-mul-value Inv-loop μ-loop
@@ -83,7 +83,7 @@ loop-again c =
       omega arith,
       l .inv .2
           ∙ at-digit (c .before .before .before .before .before .before .before .args .s .now) (l .value) (l .at)
-          (c .before .before .before .before .loop-test .taken) (c .before .before .if2 .left) (c .before .if3 .left),
+          (c .before .before .before .before .loop-test .taken) (omega arith) (omega arith),
     )
 
 -- src/lib.rt:19:1

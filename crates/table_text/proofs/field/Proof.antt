@@ -37,7 +37,7 @@ same-length c = search needs
 -- src/lib.rt:52:1
 returns : tie.Need-returns
 unfolding field
-returns c =  
+returns c =
     let s = c .before .before .before .before .before in
     let w = wrote-room (s .args .out .now) (s .args .at) 20 (decimal (s .args .n)) (omega (arith, s .pre)) (c .before .before .put .ensures .0) (c .before .before .put .ensures .1 .0) in
     wrote-byte (s .args .b) (omega (arith, length-decimal (s .args .n), s .pre)) w

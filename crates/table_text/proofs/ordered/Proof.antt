@@ -16,12 +16,12 @@ use Rattle.decimal.proofs.read.Reads as read-reads
 -- src/lib.rt:35:9
 returns : tie.Need-returns
 returns c =
-    sym (order-short (c .before .before .args .input .now) (c .if1 .taken))
+    sym (order-short (c .before .before .args .input .now) (omega arith))
 
 -- src/lib.rt:38:9
 returns-2 : tie.Need-returns-2
 returns-2 c =
-    sym (order-long (c .before .before .before .args .input .now) (c .if2 .taken))
+    sym (order-long (c .before .before .before .args .input .now) (omega arith))
 
 -- src/lib.rt:40:16
 sub-last : tie.Need-sub-last
@@ -34,7 +34,7 @@ shared-slice-read-if3 c = search needs
 -- src/lib.rt:42:9
 returns-3 : tie.Need-returns-3
 returns-3 c =
-    sym (order-open (c .before .before .before .before .before .args .input .now) (c .before .before .before .if1 .left) (c .before .before .if2 .left) (c .if3 .taken))
+    sym (order-open (c .before .before .before .before .before .args .input .now) (omega arith) (omega arith) (omega arith))
 
 -- src/lib.rt:44:31
 slice-aggregate-read : tie.Need-slice-aggregate-read
@@ -53,7 +53,7 @@ enum-known-found c = search needs
 -- src/lib.rt:46:41
 cast-t12 : tie.Need-cast-t12
 cast-t12 c =
-    let known = order-small (c .before .before .before .before .before .before .before .before .before .before .args .input .now) (c .before .before .before .before .before .before .before .before .if1 .left) (c .before .before .before .before .before .before .before .if2 .left) (c .before .before .before .before .before .if3 .left) _ (sym (c .before .before .before .read .ensures) ∙ c .before .found .given .1) in
+    let known = order-small (c .before .before .before .before .before .before .before .before .before .before .args .input .now) (omega arith) (omega arith) (omega arith) _ (sym (c .before .before .before .read .ensures) ∙ c .before .found .given .1) in
     omega (arith, known)
 
 -- src/lib.rt:47:27
@@ -63,12 +63,12 @@ enum-told c = search needs
 -- src/lib.rt:30:1
 returns-4 : tie.Need-returns-4
 returns-4 c =
-    sym (order-number (c .before .before .before .before .before .before .before .before .before .before .args .input .now) (c .before .before .before .before .before .before .before .before .if1 .left) (c .before .before .before .before .before .before .before .if2 .left) (c .before .before .before .before .before .if3 .left) _ (sym (c .before .before .before .read .ensures) ∙ c .before .found .given .1))
+    sym (order-number (c .before .before .before .before .before .before .before .before .before .before .args .input .now) (omega arith) (omega arith) (omega arith) _ (sym (c .before .before .before .read .ensures) ∙ c .before .found .given .1))
 
 -- src/lib.rt:30:1
 returns-5 : tie.Need-returns-5
 returns-5 c =
-    sym (order-other (c .before .before .before .before .before .before .before .before .before .args .input .now) (c .before .before .before .before .before .before .before .if1 .left) (c .before .before .before .before .before .before .if2 .left) (c .before .before .before .before .if3 .left) (sym (c .before .before .read .ensures) ∙ c .enum-told .given .1))
+    sym (order-other (c .before .before .before .before .before .before .before .before .before .args .input .now) (omega arith) (omega arith) (omega arith) (sym (c .before .before .read .ensures) ∙ c .enum-told .given .1))
 
 pub ordered-spec : {M : Type 1} → statement M
 ordered-spec =

@@ -66,10 +66,12 @@ loop-again c =
     let l = c .before .before .before .before .before .before .before .loop in
     let k = s .args .k .0 in
     let e = s .pre .0 in
-    let most = lines-most k (l .j) e (omega (arith, l .inv .0, s .pre .1)) in
-    (omega arith, c .before .before .row .kept .0 ∙ l .inv .1,
-    rw (lines-more k (l .j), ← line-word k (l .j) e (omega (arith, c .before .before .before .before .before .before .loop-test .taken, s .pre .1)) (c .before .before .before .before .value .ensures) (c .before .before .before .word .ensures))
-    (wrote-more (omega (arith, most, l .inv .0, s .pre .1, s .pre .2, s .pre .3, count-most k e)) (l .inv .2) (c .before .before .row .ensures)))
+    let most = lines-most k (l .j) e (omega (arith, l .inv .0, s .pre .1)) in (
+      omega arith,
+      c .before .before .row .kept .0 ∙ l .inv .1,
+      rw (lines-more k (l .j), ← line-word k (l .j) e (omega (arith, c .before .before .before .before .before .before .loop-test .taken, s .pre .1)) (c .before .before .before .before .value .ensures) (c .before .before .before .word .ensures))
+          (wrote-more (omega (arith, most, l .inv .0, s .pre .1, s .pre .2, s .pre .3, count-most k e)) (l .inv .2) (c .before .before .row .ensures)),
+    )
 
 -- src/lib.rt:107:1
 same-length : tie.Need-same-length Inv-loop μ-loop

@@ -55,8 +55,18 @@ last-row-requires c κs =
     let k = c .before .before .before .before .before .before .before .before .before .before .before .before .args .k .0 in
     let e = c .before .before .before .before .before .before .before .before .before .before .before .before .pre .0 in
     let count = c .before .before .before .before .before .before .before .before .before .before .power .ensures ∙ power-in k e in
-    omega (arith, c .before .before .before .before .rows .ensures .place, c .before .before .before .before .rows .kept .0, c .before .before .before .before .before .before .before .before .header .ensures .place, c .before .before .before .before .before .before .before .before .header .kept .0, c .before .before .before .before .before .before .before .before .before .before .before .before .pre .1,
-    count, count-most k e, header-most k e, lines-most k (c .before .before .before .before .before .before .before .before .before .before .power .result) e (omega (arith, count)))
+    omega (
+      arith,
+      c .before .before .before .before .rows .ensures .place,
+      c .before .before .before .before .rows .kept .0,
+      c .before .before .before .before .before .before .before .before .header .ensures .place,
+      c .before .before .before .before .before .before .before .before .header .kept .0,
+      c .before .before .before .before .before .before .before .before .before .before .before .before .pre .1,
+      count,
+      count-most k e,
+      header-most k e,
+      lines-most k (c .before .before .before .before .before .before .before .before .before .before .power .result) e (omega (arith, count)),
+    )
 
 -- src/lib.rt:138:1
 same-length : tie.Need-same-length
@@ -70,8 +80,8 @@ returns c =
     let count : c .before .before .before .before .before .before .before .before .before .before .before .before .before .power .result ≡ 2 ^ k = c .before .before .before .before .before .before .before .before .before .before .before .before .before .power .ensures ∙ power-in k e in
     let most = lines-most k (c .before .before .before .before .before .before .before .before .before .before .before .before .before .power .result) e (omega (arith, count)) in
     let below : Wrote (c .before .before .before .before .before .before .before .before .before .before .before .header .last .0) (c .before .before .before .before .before .before .before .before .before .before .before .header .result) (lines k (c .before .before .before .before .before .before .before .before .before .before .before .before .before .power .result + 1)) (c .before .before .last-row .result) (c .before .before .last-row .last .0) =
-        rw (lines-more k (c .before .before .before .before .before .before .before .before .before .before .before .before .before .power .result), ← line-last k (c .before .before .before .before .before .before .before .before .before .before .before .before .before .power .result) e count (c .before .before .before .value .ensures))
-        (wrote-more (omega (arith, most, count, count-most k e, header-most k e, c .before .before .before .before .before .before .before .before .before .before .before .header .ensures .place, c .before .before .before .before .before .before .before .before .before .before .before .header .kept .0, c .before .before .before .before .before .before .before .before .before .before .before .before .before .before .before .pre .1)) (c .before .before .before .before .before .before .before .rows .ensures) (c .before .before .last-row .ensures)) in
+    rw (lines-more k (c .before .before .before .before .before .before .before .before .before .before .before .before .before .power .result), ← line-last k (c .before .before .before .before .before .before .before .before .before .before .before .before .before .power .result) e count (c .before .before .before .value .ensures))
+    (wrote-more (omega (arith, most, count, count-most k e, header-most k e, c .before .before .before .before .before .before .before .before .before .before .before .header .ensures .place, c .before .before .before .before .before .before .before .before .before .before .before .header .kept .0, c .before .before .before .before .before .before .before .before .before .before .before .before .before .before .before .pre .1)) (c .before .before .before .before .before .before .before .rows .ensures) (c .before .before .last-row .ensures)) in
     wrote-more (omega (arith, header-most k e, c .before .before .before .before .before .before .before .before .before .before .before .before .before .before .before .pre .1)) (c .before .before .before .before .before .before .before .before .before .before .before .header .ensures) (rw count at below)
 
 pub table-spec : {M : Type 1} → statement M
