@@ -1,6 +1,6 @@
 -- Laws of decimal digits: how many a number has, that they are digits and stand for the number, and how large the value of digits is.
 -- Assumes nothing.
-use mathlib.Core.Path.{_≡_, refl, sym, ap, subst, _∙_}
+use mathlib.Core.Path.{_≡_, refl, sym, ap, _∙_}
 use mathlib.Core.Logic.{_⊎_, inl, inr, ⊎-elim}
 use mathlib.Core.Bool.{Bool, true, false, cond, _&&_}
 use mathlib.Core.List.{List, [], _∷_, _++_}
@@ -12,7 +12,6 @@ use lib.Dec.{leb, ltb}
 use lib.ListN.{length, length-append}
 use Rattle.decimal.specs.Decimal.{digits, decimal, isDigit, allDigits, isDigits, valueFrom, decimalValue}
 use Rattle.decimal.specs.Reading.{reading}
-use Rattle.decimal.specs.declared.Reading.{Reading}
 use Rattle.decimal.specs.declared.Reading.the-variants.{Number, Other}
 
 -- a number is below another or not

@@ -1,13 +1,13 @@
 -- Laws of text written at a place: its length, pieces written one after the other, and one byte as a store.
 -- Assumes nothing.
-use mathlib.Core.Path.{_≡_, refl, sym, ap, _∙_}
+use mathlib.Core.Path.{_≡_, sym, ap, _∙_}
 use mathlib.Core.List.{List, [], _∷_, _++_, append-assoc, append-nil}
-use Prim.Native.Nat.{ℕ, suc, _+_, _-_, _≤_, _<_}
+use Prim.Native.Nat.{ℕ, _+_, _≤_, _<_}
 use native.Mathlib.Nat.{add-assoc, add-zero}
 use native.Mathlib.Numerals.{add-one}
 use native.Mathlib.Omega.{arith}
 use lib.ListN.{length, take, drop, set, length-append, length-drop, take-append-drop}
-use lib.Seq.{length-take-le, take-at, drop-at, drop-append-add, drop-drop, set-split, paste, take-length, append-snoc}
+use lib.Seq.{length-take-le, take-at, drop-append-add, drop-drop, set-split, paste, take-length, append-snoc}
 use borrow.Author.Tests.{le-leb}
 use Rattle.decimal.specs.Text.{written, putInto, placeAfter, Wrote}
 

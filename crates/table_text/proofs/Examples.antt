@@ -1,8 +1,7 @@
 -- The printed table of document 01, and inputs at the limits of an order, as the definitions compute them.
 -- Assumes nothing.
 use mathlib.Core.Path.{_≡_, refl}
-use mathlib.Core.List.{List, [], _∷_}
-use Prim.Native.Nat.{ℕ}
+use mathlib.Core.List.{[], _∷_}
 use Rattle.decimal.specs.Decimal.{digits, decimal}
 use Rattle.quotient.specs.Quotient.{roundedUp}
 use Rattle.table_text.specs.TableText.{precisionOf, field, line, lines, header, tableText, refusedText}

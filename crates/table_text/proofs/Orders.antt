@@ -1,22 +1,19 @@
 -- What an input orders, by its cases, and that eleven bytes of it settle it.
 -- Assumes nothing.
 use mathlib.Core.Path.{_≡_, refl, sym, ap, _∙_}
-use mathlib.Core.Logic.{_⊎_, inl, inr, ⊎-elim}
-use mathlib.Core.Bool.{Bool, true, false, cond, _&&_}
-use mathlib.Core.List.{List, [], _∷_}
-use Prim.Native.Nat.{ℕ, _+_, _-_, _^_, _≤_, _<_}
+use mathlib.Core.Bool.{Bool, true, false}
+use mathlib.Core.List.{List}
+use Prim.Native.Nat.{ℕ, _-_, _^_, _≤_, _<_}
 use native.Mathlib.Nat.{pow-le-pow-right}
 use native.Mathlib.Omega.{arith}
 use borrow.Author.Tests.{le-leb, lt-leb, eq-eqb, ne-eqb, leb-true, leb-false}
-use lib.Dec.{leb, eqb}
-use lib.ListN.{length, take, getD, length-take}
+use lib.Dec.{leb}
+use lib.ListN.{length, take, getD}
 use lib.Seq.{take-all, length-take-le}
-use Rattle.decimal.specs.Decimal.{isDigits, decimalValue}
 use Rattle.decimal.specs.Reading.{reading}
-use Rattle.decimal.specs.declared.Reading.{Reading}
 use Rattle.decimal.specs.declared.Reading.the-variants.{Number, Other}
 use Rattle.decimal.proofs.Laws.{reading-number, reading-other, is-all, value-below}
-use Rattle.table_text.specs.TableText.{body, isOrder, precisionOf}
+use Rattle.table_text.specs.TableText.{body, precisionOf}
 
 module _ (s : List ℕ) where
   pub order-short : length s < 2 → precisionOf s ≡ 0

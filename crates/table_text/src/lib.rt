@@ -13,7 +13,6 @@ ghost use Rattle.table_text.specs.TableText.{
   textFor,
   space,
   field as fieldText,
-  line,
   lines as linesText,
   header as headerText,
   longestText,

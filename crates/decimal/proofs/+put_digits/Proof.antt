@@ -1,14 +1,14 @@
 -- The proof of the cycle of calls {put_digits}. The measure is n: the call of itself is on a tenth of n.
 -- Assumes nothing.
-use mathlib.Core.Path.{_≡_, refl, sym, ap, _∙_}
+use mathlib.Core.Path.{refl, sym, ap, _∙_}
 use native.Mathlib.Omega.{arith}
 use mathlib.Core.List.{List}
 use lib.ListN.{length, length-set, set}
 use Rattle.decimal.specs.Text.{written}
 use Rattle.decimal.specs.Decimal.{decimal}
-use Rattle.decimal.proofs.Writing.{written-one, written-snoc, length-written}
+use Rattle.decimal.proofs.Writing.{written-one, written-snoc}
 use Rattle.decimal.proofs.Laws.{decimal-small, decimal-large, length-large}
-use Prim.Native.Nat.{ℕ, _+_, _/_, _%_, _^_, _<_}
+use Prim.Native.Nat.{ℕ, _+_, _/_, _%_, _<_}
 use borrow.Fn.Kinds.{In}
 use borrow.Fn.PlainCycle.{Measures, is, falls, and}
 use Rattle.decimal.proofs.put_digits.Reads as put-digits

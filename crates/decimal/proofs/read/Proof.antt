@@ -1,7 +1,7 @@
 -- `decimal::read` meets its contract. The invariant: what is found from the value so far and the bytes that are left is what is found
 -- from all of s. The measure is what is left of the length. Assumes nothing.
 use mathlib.Core.Path.{_≡_, sym, _∙_}
-use Prim.Native.Nat.{ℕ, _+_, _-_, _*_, _^_, _≤_, _<_}
+use Prim.Native.Nat.{_-_, _^_, _≤_, _<_}
 use native.Mathlib.Omega.{arith}
 use lib.ListN.{length, drop}
 use Rattle.decimal.specs.Reading.{reading}

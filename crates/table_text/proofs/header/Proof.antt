@@ -1,12 +1,10 @@
 -- `table_text::header` meets its contract: two titles with their numbers; in range the length that is ordered is the image length.
 -- Assumes nothing.
 use mathlib.Core.Path.{_≡_, _∙_}
-use mathlib.Core.Bool.{cond}
 use native.Mathlib.Omega.{arith}
-use lib.ListN.{length, length-append}
 use Rattle.precision.specs.Precision.{imageLength, orderedLength}
 use Rattle.decimal.proofs.Writing.{wrote-more}
-use Rattle.table_text.specs.TableText.{header, field, precisionText, space}
+use Rattle.table_text.specs.TableText.{header, space}
 use Rattle.table_text.proofs.Sizes.{field-most}
 use borrow.Author.Needs.{needs}
 use Rattle.table_text.proofs.header.Statement.{statement}

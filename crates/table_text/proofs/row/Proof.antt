@@ -1,7 +1,6 @@
 -- `table_text::row` meets its contract: two columns and the word after them.
 -- Assumes nothing.
 use native.Mathlib.Omega.{arith}
-use lib.ListN.{length-append}
 use Rattle.decimal.proofs.Writing.{wrote-more}
 use Rattle.table_text.proofs.Sizes.{columns-most}
 use borrow.Author.Needs.{needs}
