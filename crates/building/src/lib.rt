@@ -62,8 +62,10 @@ pub fn build(k: Precision, image: &mut [u8]) -> Done
             value: 0,
         };
     }
-    let count = bits::power(p) as u32;
-    fill(image, 2 * p + 2, count, bits::power(3 * p + 3), count);
+    let count = k.word_count();
+    let width = k.word_width() as u32;
+    let numerator = bits::power(3 * p + 3);
+    fill(image, width, count, numerator, count);
     Done {
         number: 0,
         place: 0,

@@ -39,7 +39,7 @@ pub fn check(k: Precision, image: &[u8]) -> Done
             value: 0,
         };
     }
-    let count = bits::power(k.0) as u32;
+    let count = k.word_count();
     let place = first_wrong(k, image, count);
     if place < count {
         return Done {

@@ -1,3 +1,4 @@
+pub mod Judging
 pub mod Laws
 pub mod Limits
 pub mod Lowest

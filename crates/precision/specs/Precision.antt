@@ -24,6 +24,10 @@ wordWidth k = 2 * k + 2
 abbrev pub wordCount : ℕ → ℕ
 wordCount k = 2 ^ k
 
+-- the words of the image that is ordered at k: none where k is no precision
+abbrev pub orderedWords : ℕ → ℕ
+orderedWords k = cond (inRange k) (wordCount k) 0
+
 -- the bytes of an image: 2^k × (2k + 2) / 8
 abbrev pub imageLength : ℕ → ℕ
 imageLength k = wordCount k * wordWidth k / 8

@@ -6,6 +6,7 @@ ghost use Rattle.precision.specs.Precision.{
   longestImage,
   inRange,
   wordWidth,
+  orderedWords,
   orderedLength,
 };
 
@@ -41,6 +42,17 @@ impl Precision {
         ensures { λ r. ⌜ r ≡ wordWidth (self .0) ⌝ }
     {
         2 * (self.0 as u64) + 2
+    }
+
+    // The words of the image, 2^k, and 0 where this is no precision.
+    pub fn word_count(self) -> u32
+        ensures { λ r. ⌜ r ≡ orderedWords (self .0) ⌝ }
+    {
+        let k = self.0;
+        if !self.in_range() {
+            return 0;
+        }
+        1 << k
     }
 
     // The bytes of the image, 0 where this is no precision.

@@ -19,7 +19,7 @@ pub fn node(k: Precision, image: &[u8], j: u32) -> NodeRead
         };
     }
     let p = k.0;
-    let count = bits::power(p) as u32;
+    let count = k.word_count();
     if count < j {
         return NodeRead {
             number: 3,
@@ -34,7 +34,7 @@ pub fn node(k: Precision, image: &[u8], j: u32) -> NodeRead
             value: TableUnits(bits::power(2 * p + 2)),
         };
     }
-    let word = packing::word(image, 2 * p + 2, j);
+    let word = packing::word(image, k.word_width() as u32, j);
     let c = nodes::judge(k, j, word);
     if c.0 == 0 {
         return NodeRead {
@@ -59,7 +59,7 @@ pub fn word_bytes(k: Precision, image: &[u8], j: u32) -> &[u8]
         return &image[..0];
     }
     let p = k.0;
-    let count = bits::power(p) as u32;
+    let count = k.word_count();
     if count <= j {
         return &image[..0];
     }

@@ -1,7 +1,7 @@
 -- `quotient::rounded_up` meets its contract: the quotient rounded down is exact, or one too small.
 -- Assumes nothing.
-use mathlib.Core.Path.{_≡_, sym}
-use Prim.Native.Nat.{ℕ, _/_, _*_, _<_}
+use mathlib.Core.Path.{sym}
+use Prim.Native.Nat.{_/_, _<_}
 use native.Mathlib.Nat.{div-mul-le-self, lt-div-mul-add, le-mul-of-pos-right}
 use native.Mathlib.Omega.{arith}
 use borrow.Author.Needs.{needs}

@@ -1,23 +1,32 @@
 -- `reading::word_bytes` meets its contract: an empty part on each refusal, and otherwise the bytes from the first to the last of word j.
 -- Assumes nothing.
-use mathlib.Core.Path.{_≡_, refl, sym, _∙_, ap}
-use mathlib.Core.Bool.{Bool, cond}
+use mathlib.Core.Path.{_≡_, sym, _∙_, ap}
 use mathlib.Core.List.{List}
 use Prim.Native.Nat.{ℕ, _+_, _-_, _*_, _/_, _^_, _≤_, _<_}
 use native.Mathlib.Nat.{mul-le-mul}
 use native.Mathlib.Omega.{arith}
 use lib.ListN.{length, take, drop}
 use lib.Pow.{pow-mono}
+use borrow.Author.Needs.{needs}
 use borrow.Author.Tests.{lt-ltb, le-ltb}
-use Rattle.bits.proofs.Laws.{power-fits}
 use Rattle.precision.specs.Precision.{wordWidth}
 use Rattle.packing.specs.Packing.{firstByte, spanBytes}
 use Rattle.image.specs.Refusals.{brokenLimit}
 use Rattle.image.proofs.Laws.{word-in-buffer}
-use Rattle.image.proofs.Limits.{limit-no-image, limit-kept, limit-image}
-use borrow.Author.Needs.{needs}
+use Rattle.image.proofs.Limits.{Kept, limit-no-image, limit-kept, limit-image}
 use Rattle.reading.proofs.word_bytes.Statement.{statement}
 use Rattle.reading.proofs.word_bytes.Tie as tie
+
+-- behind the test of the limits both are kept
+limit : (c : tie.Else1) → brokenLimit (c .before .before .before .args .k .0) (length (c .before .before .before .args .image .now)) ≡ 0
+limit c = sym (c .before .broken-limit .ensures) ∙ c .if1 .left
+
+kept : (c : tie.Else1) → Kept (c .before .before .before .args .k .0) (c .before .before .before .args .image .now)
+kept c = limit-kept (c .before .before .before .args .k .0) (c .before .before .before .args .image .now) (limit c)
+
+-- the number of words is 2^k
+counted : (c : tie.After-word-count) → c .word-count .result ≡ 2 ^ c .before .before .before .before .args .k .0
+counted c = c .word-count .ensures ∙ kept (c .before) .words
 
 -- how many bytes are shown
 span : (k j : ℕ) → (j * (2 * k + 2) + (2 * k + 2) + 7) / 8 - j * (2 * k + 2) / 8 ≡ spanBytes (wordWidth k) j
@@ -25,7 +34,6 @@ span k j = omega arith
 
 -- what is known of word j where its bytes are shown
 record There (k : ℕ) (s : List ℕ) (j width : ℕ) : Type 0 where
-  limit : brokenLimit k (length s) ≡ 0
   below : j < 2 ^ k
   narrow : width ≡ 2 * k + 2
   bits : j * width ≤ 4096 * 26
@@ -36,19 +44,15 @@ there c =
     let k = c .before .before .before .before .before .before .args .k .0 in
     let s = c .before .before .before .before .before .before .args .image .now in
     let j = c .before .before .before .before .before .before .args .j in
-    let z = sym (c .before .before .before .before .broken-limit .ensures) ∙ c .before .before .before .if1 .left in
-    let kept = limit-kept k s z in
-    let p : c .before .before .power .result ≡ 2 ^ k =
-        c .before .before .power .ensures ∙ power-fits k (omega (arith, kept .high)) in
-    let l : j < 2 ^ k = omega (arith, p, c .before .if2 .left) in
-    let m : j ≤ 4096 = omega (arith, pow-mono (kept .high)) in
-    let n : 2 * k + 2 ≤ 26 = omega (arith, kept .high) in
-    record
-    { limit = z
-    ; below = l
-    ; narrow = c .word-width .ensures
-    ; bits = rw (c .word-width .ensures) (mul-le-mul m n)
-    ; inside = rw (c .word-width .ensures) (word-in-buffer k (kept .low) s j (kept .long) l)
+    let ok = kept (c .before .before .before) in
+    let l : j < 2 ^ k = omega (arith, counted (c .before .before), c .before .if2 .left) in
+    let m : j ≤ 4096 = omega (arith, pow-mono (ok .high)) in
+    let n : 2 * k + 2 ≤ 26 = omega (arith, ok .high) in
+    record {
+      below = l;
+      narrow = c .word-width .ensures;
+      bits = rw (c .word-width .ensures) (mul-le-mul m n);
+      inside = rw (c .word-width .ensures) (word-in-buffer k (ok .low) s j (ok .long) l);
     }
 
 broken-limit-requires : tie.Need-broken-limit-requires
@@ -58,34 +62,25 @@ slice-aggregate-result : tie.Need-slice-aggregate-result
 slice-aggregate-result c = search needs
 
 returns : tie.Need-returns
-returns c = 
+returns c =
     let k = c .before .before .before .before .args .k .0 in
     let s = c .before .before .before .before .args .image .now in
     let h : brokenLimit k (length s) ≡ 0 → ⊥ = λ e. c .before .if1 .taken (c .before .before .broken-limit .ensures ∙ e) in
     rw (limit-no-image k s h)
 
-power-requires : tie.Need-power-requires
-power-requires c κs = search needs
-
-cast-count : tie.Need-cast-count
-cast-count c = 
-    let k = c .before .before .before .before .args .k .0 in
-    let s = c .before .before .before .before .args .image .now in
-    let kept = limit-kept k s (sym (c .before .before .broken-limit .ensures) ∙ c .before .if1 .left) in
-    rw (c .power .ensures ∙ power-fits k (omega (arith, kept .high))) (record { fits = omega (arith, pow-mono (kept .high)) })
+word-count-requires : tie.Need-word-count-requires
+word-count-requires c κs = search needs
 
 slice-aggregate-result-2 : tie.Need-slice-aggregate-result-2
 slice-aggregate-result-2 c = search needs
 
 returns-2 : tie.Need-returns-2
-returns-2 c = 
-    let k = c .before .before .before .before .before .before .args .k .0 in
-    let s = c .before .before .before .before .before .before .args .image .now in
-    let j = c .before .before .before .before .before .before .args .j in
-    let z = sym (c .before .before .before .before .broken-limit .ensures) ∙ c .before .before .before .if1 .left in
-    let p : c .before .before .power .result ≡ 2 ^ k =
-        c .before .before .power .ensures ∙ power-fits k (omega (arith, limit-kept k s z .high)) in
-    rw (limit-image k s z, le-ltb j (2 ^ k) (omega (arith, p, c .before .if2 .taken)))
+returns-2 c =
+    let at = c .before .before .before in
+    let k = at .before .before .before .args .k .0 in
+    let s = at .before .before .before .args .image .now in
+    let j = at .before .before .before .args .j in
+    rw (limit-image k s (limit at), le-ltb j (2 ^ k) (omega (arith, counted (c .before .before), c .before .if2 .taken)))
 
 word-width-requires : tie.Need-word-width-requires
 word-width-requires c κs = search needs
@@ -110,11 +105,12 @@ part-result-end c = let t = there c in omega (arith, t .narrow, t .inside)
 
 returns-3 : tie.Need-returns-3
 returns-3 c =
-    let k = c .before .before .before .before .before .before .before .args .k .0 in
-    let s = c .before .before .before .before .before .before .before .args .image .now in
-    let j = c .before .before .before .before .before .before .before .args .j in
+    let at = c .before .before .before .before in
+    let k = at .before .before .before .args .k .0 in
+    let s = at .before .before .before .args .image .now in
+    let j = at .before .before .before .args .j in
     let t = there (c .before) in
-    rw (limit-image k s (t .limit), lt-ltb j (2 ^ k) (t .below))
+    rw (limit-image k s (limit at), lt-ltb j (2 ^ k) (t .below))
     (ap (λ (w : ℕ). take ((j * w + w + 7) / 8 - j * w / 8) (drop (j * w / 8) s)) (t .narrow)
     ∙ ap (λ (n : ℕ). take n (drop (firstByte (wordWidth k) j) s)) (span k j))
 
@@ -125,8 +121,7 @@ word-bytes-spec =
     broken-limit-requires
     slice-aggregate-result
     returns
-    power-requires
-    cast-count
+    word-count-requires
     slice-aggregate-result-2
     returns-2
     word-width-requires
