@@ -222,12 +222,10 @@ BAD = {
     "no line feed, in two pieces": [b"1", b"2"],
 }
 # A buffer's end must not be taken for the input's: lengths about the sizes that a reader may use.
-for size in (10, 11, 12, 16, 20, 32, 64, 4096, 65536):
-    for length in (size - 1, size, size + 1):
-        BAD[f"{length} bytes of zeros, then 2"] = [b"0" * length, b"2\n"]
-        BAD[f"2, then {length} bytes of line feeds"] = [b"2\n", b"\n" * length]
-        if length > 2:
-            BAD[f"2 in {length} bytes"] = [b"2\n".ljust(length, b"\0")]
+for length in (1, 2, 6, 7, 16, 4086, 4087, 65526, 65527):
+    BAD[f"nine digits, a line feed, {length} bytes more"] = [b"000000002\n" + b"\n" * length]
+    BAD[f"2, a line feed, {length} bytes more, later"] = [b"2\n", bytes(length)]
+    BAD[f"{length + 9} zeros, then 2"] = [b"0" * (length + 9) + b"2\n"]
 
 
 def printed_table(pieces, refused):

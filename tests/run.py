@@ -25,6 +25,7 @@ def main():
             why = test()
         except Exception as error:  # a test that cannot be run has failed
             why = f"{type(error).__name__}: {error}"
+        why = why and " | ".join(why.split("\n"))
         passed += why is None
         failed += why is not None
         print(f"ok    {name}" if why is None else f"FAIL  {name}: {why}", flush=True)
