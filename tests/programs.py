@@ -245,6 +245,12 @@ def printed_table_document():
     return same(run("print_table", [b"2\n"]), PRINTED_2)
 
 
+def one_command():
+    """./print-table 2, which the README has a newcomer type, started in another folder."""
+    done = subprocess.run([ROOT / "print-table", "2"], cwd="/", stdin=subprocess.DEVNULL, capture_output=True, timeout=600)
+    return same(done.stdout, PRINTED_2) or (f"exit status {done.returncode}" if done.returncode else None)
+
+
 def tests():
     yield "document 01: the examples and limits of the image, by the reference", document_examples
     yield "document 01: the printed table of precision 2, by the reference", document_table
@@ -255,6 +261,7 @@ def tests():
     yield "Table 1 of document 002: the reference", table1_reference
     yield "Table 1 of document 002: the program", table1_program
     yield "print_table: document 01, precision 2", printed_table_document
+    yield "print-table: one command prints the table of precision 2", one_command
     for name, pieces in GOOD.items():
         yield f"print_table: {name}", lambda pieces=pieces: printed_table(pieces, False)
     for name, pieces in BAD.items():
