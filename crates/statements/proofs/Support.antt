@@ -8,11 +8,11 @@ use mathlib.Core.List.{List, [], _∷_, _++_, append-nil}
 use Prim.Native.Nat.{ℕ, _+_, _-_, _*_, _/_, _%_, _^_, _≤_, _<_}
 use native.Mathlib.Nat.{le-of-lt, le-of-eq, div-eq-of-lt-le}
 use native.Mathlib.Omega.{arith}
-use lib.ListN.{length, drop, getD, length-take, length-drop}
-use lib.Seq.{drop-at, getD-take, getD-drop}
+use lib.ListN.{length, take, drop, getD, length-append, length-take, length-drop}
+use lib.Seq.{take-at, drop-at, getD-at, getD-take, getD-drop}
 use lib.Pow.{pow-pos}
 use lib.Dec.{T, eqb, ltb, lit<}
-use borrow.Author.Tests.{lt-ltb, le-ltb, ltb-true, ltb-false, eq-eqb}
+use borrow.Author.Tests.{lt-ltb, le-ltb, ltb-true, ltb-false, eq-eqb, le-leb}
 use Rattle.precision.specs.Precision.{inRange, imageLength, wordCount, wordWidth}
 use Rattle.nodes.specs.Nodes.{node, decode, storedWord, isRight}
 use Rattle.nodes.proofs.Nodes.{decode-right, decode-last, node-above, node-below, node-last, lead-double, stored-word-first, stored-word-between}
@@ -28,8 +28,12 @@ use Rattle.image.proofs.Laws.{image-length, image-word, byte-count, built-lengt
 use Rattle.image.proofs.Limits.{limit-none, limit-image, limit-passes, limit-kept, image-limit}
 use Rattle.image.proofs.Lowest.{lowest-passes, lowest-before, lowest-none, lowest-agrees}
 use Rattle.image.proofs.Judging.{node-wrong, node-right, node-end, node-above as node-above-end}
+use Rattle.decimal.specs.Decimal.{decimal, isDigits, decimalValue}
+use Rattle.decimal.proofs.Laws.{decimal-digits, length-decimal-below, value-decimal}
+use Rattle.table_text.specs.TableText.{precisionOf, body, lineFeed, tableText, textFor}
+use Rattle.table_text.proofs.Orders.{order-prefix}
 use Rattle.statements.specs.Terms.{IsPrecision, IsLongEnough, IsRightAt}
-use Rattle.statements.proofs.Iff.{joined, both, is-precision, no-precision, is-below, not-below, wrong-word, no-wrong-word, some-wrong}
+use Rattle.statements.proofs.Iff.{failed, joined, both, is-precision, no-precision, is-below, not-below, wrong-word, no-wrong-word, some-wrong}
 
 -- a lone test, with nothing behind it
 pub alone : {A : Type 0} {n : ℕ} → (A × (n ≡ n)) ↔ A
@@ -267,3 +271,35 @@ module _ (k : ℕ) (s : List ℕ) (j : ℕ) where
       from false true e d f =
           let kept = limit-kept k s (image-limit k s e) in
           absurd (f ((kept .low, kept .high), kept .long, ltb-true j (2 ^ k) d))
+
+-- a number that is no precision fails the test
+pub out-of-range : (k : ℕ) → (IsPrecision k → ⊥) → inRange k ≡ false
+out-of-range k f = failed (inRange k) (no-precision k .1 f)
+
+-- orders
+pub order-of-digits : (d : List ℕ) → isDigits d ≡ true → length d ≤ 9 → precisionOf (d ++ lineFeed ∷ []) ≡ decimalValue d
+unfolding precisionOf
+order-of-digits d e h =
+    let n : length (d ++ lineFeed ∷ []) ≡ length d + 1 = length-append d (lineFeed ∷ []) in
+    let m : length (d ++ lineFeed ∷ []) - 1 ≡ length d = omega (arith, n) in
+    let whole : body (d ++ lineFeed ∷ []) ≡ d = take-at d (lineFeed ∷ []) (length (d ++ lineFeed ∷ []) - 1) (sym m) in
+    let last : getD (d ++ lineFeed ∷ []) (length (d ++ lineFeed ∷ []) - 1) 0 ≡ lineFeed = getD-at d lineFeed [] 0 (length (d ++ lineFeed ∷ []) - 1) (sym m) in
+    rw (
+      le-leb 2 (length (d ++ lineFeed ∷ [])) (omega (arith, n, some d e)),
+      le-leb (length (d ++ lineFeed ∷ [])) 10 (omega (arith, n)),
+      eq-eqb (getD (d ++ lineFeed ∷ []) (length (d ++ lineFeed ∷ []) - 1) 0) lineFeed last,
+      whole,
+      e,
+    )
+  where
+    some : (t : List ℕ) → isDigits t ≡ true → 1 ≤ length t
+    some [] f = absurd (true≢false (sym f))
+    some (b ∷ t) f = omega arith
+
+pub order-of-number : (n : ℕ) → n < 10 ^ 9 → precisionOf (decimal n ++ lineFeed ∷ []) ≡ n
+order-of-number n h =
+    order-of-digits (decimal n) (decimal-digits n) (length-decimal-below 9 n (omega arith) h) ∙ value-decimal n (omega arith)
+
+pub text-of-prefix : (n : ℕ) (s : List ℕ) → 11 ≤ n → tableText (take n s) ≡ tableText s
+unfolding tableText
+text-of-prefix n s h = ap (λ (k : ℕ). textFor (inRange k) k) (order-prefix n s h)
