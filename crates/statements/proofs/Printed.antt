@@ -16,15 +16,15 @@ use Rattle.table_text.proofs.LineLaws.{text-refused, text-table}
 use Rattle.table_text.proofs.Orders.{order-prefix}
 use Rattle.table_text.proofs.Sizes.{text-fits}
 use Rattle.statements.specs.Terms.{IsPrecision}
-use Rattle.statements.proofs.Support
+use Rattle.statements.proofs.Orders
 
 -- 1 to 9 digits and a line feed order the number that the digits stand for
 pub digits-order : (d : List ℕ) → isDigits d ≡ true → length d ≤ 9 → precisionOf (d ++ lineFeed ∷ []) ≡ decimalValue d
-digits-order = Support.order-of-digits
+digits-order = Orders.order-of-digits
 
 -- a number below 10^9 in decimal orders that number
 pub number-orders : (n : ℕ) → n < 10 ^ 9 → precisionOf (decimal n ++ lineFeed ∷ []) ≡ n
-number-orders = Support.order-of-number
+number-orders = Orders.order-of-number
 
 -- where the precision is in range, the first line and then the lines of nodes 0 to 2^k are printed
 pub prints-table : (s : List ℕ) → IsPrecision (precisionOf s) → tableText s ≡ header (precisionOf s) ++ lines (precisionOf s) (2 ^ precisionOf s + 1)
@@ -32,11 +32,11 @@ prints-table s p = text-table s (range-in (precisionOf s) (p .0) (p .1))
 
 -- and where it is not, the refusal
 pub prints-refusal : (s : List ℕ) → (IsPrecision (precisionOf s) → ⊥) → tableText s ≡ refusedText
-prints-refusal s f = text-refused s (Support.out-of-range (precisionOf s) f)
+prints-refusal s f = text-refused s (Orders.out-of-range (precisionOf s) f)
 
 -- eleven bytes settle what is printed, so input longer than any buffer needs no more
 pub prefix-settles : (n : ℕ) (s : List ℕ) → 11 ≤ n → tableText (take n s) ≡ tableText s
-prefix-settles = Support.text-of-prefix
+prefix-settles = Orders.text-of-prefix
 
 -- every text fits the buffer that is asked for
 pub text-has-room : (s : List ℕ) → length (tableText s) ≤ longestText
