@@ -7,8 +7,8 @@ use native.Mathlib.Nat.{mod-lt, lt-of-not-le, zero-mul}
 use native.Mathlib.Omega.{arith}
 use lib.Dec.{leb, ltb, eqb}
 use lib.Pow.{pow-pos}
-use borrow.Author.Tests.{eq-eqb, ne-eqb, eqb-true, leb-true, ltb-true, le-leb, lt-leb, lt-ltb, le-ltb}
-use Rattle.precision.specs.Precision.{wordWidth, inRange}
+use borrow.Author.Tests.{eq-eqb, ne-eqb, eqb-true, ltb-true, le-leb, lt-leb, lt-ltb, le-ltb}
+use Rattle.precision.specs.Precision.{wordWidth, inRange, orderedWords}
 use Rattle.quotient.specs.Quotient.{roundedUp, roundsUp}
 use Rattle.quotient.proofs.Laws.{reaches, antitone}
 use Rattle.nodes.specs.Nodes.{node, storedWord, decodeBelow, decode, hasWord, isRight, judged, nodeOr0, wordOr0}
@@ -16,18 +16,9 @@ use Rattle.nodes.proofs.Laws as laws
 use Rattle.nodes.proofs.Laws.{nodeAt}
 use Rattle.nodes.proofs.Powers.{numerator, wide, double, step, step-wide}
 
--- k is a precision: it is at most 12
-pub in-range-le : (k : ℕ) → inRange k ≡ true → k ≤ 12
-in-range-le k t = leb-true k 12 (and-eq-true-iff (leb 1 k) (leb k 12) .0 t .1)
-
-picked : (x : ℕ) (a b : Bool) → a ≡ true → b ≡ true → cond (a && b) x 0 ≡ x
-picked x a b e f = rw (e, f)
-
-unpicked-first : (x : ℕ) (a b : Bool) → a ≡ false → cond (a && b) x 0 ≡ 0
-unpicked-first x a b e = rw e
-
-unpicked-second : (x : ℕ) (a b : Bool) → b ≡ false → cond (a && b) x 0 ≡ 0
-unpicked-second x a b e = rw (e, and-false)
+past-choice : (b : Bool) (j n : ℕ) → cond b n 0 ≤ j → (b && ltb j n) ≡ false
+past-choice true j n h = le-ltb j n h
+past-choice false j n h = refl
 
 or-zero : (b : Bool) (x : ℕ) → (b ≡ true → 0 < x) → eqb (cond b x 0) 0 ≡ not b
 or-zero true x h = ne-eqb x 0 (λ e. omega (arith, e, h refl))
@@ -138,36 +129,31 @@ module _ (k : ℕ) where
 
   -- nodes and words stand where k is a precision and j is in the table, and nowhere else
   pub node-there : inRange k ≡ true → (j : ℕ) → j ≤ 2 ^ k → nodeOr0 k j ≡ node k j
-  node-there r j h = picked (node k j) (inRange k) (leb j (2 ^ k)) r (le-leb j (2 ^ k) h)
+  node-there r j h = rw (r, le-leb j (2 ^ k) h)
 
   pub node-past : (j : ℕ) → 2 ^ k < j → nodeOr0 k j ≡ 0
-  node-past j h = unpicked-second (node k j) (inRange k) (leb j (2 ^ k)) (lt-leb j (2 ^ k) h)
+  node-past j h = rw (lt-leb j (2 ^ k) h, and-false)
 
   pub no-node : inRange k ≡ false → (j : ℕ) → nodeOr0 k j ≡ 0
-  no-node r j = unpicked-first (node k j) (inRange k) (leb j (2 ^ k)) r
-
-  pub word-there : inRange k ≡ true → (j : ℕ) → j < 2 ^ k → wordOr0 k j ≡ storedWord k j
-  word-there r j h = picked (storedWord k j) (inRange k) (ltb j (2 ^ k)) r (lt-ltb j (2 ^ k) h)
-
-  pub word-past : (j : ℕ) → 2 ^ k ≤ j → wordOr0 k j ≡ 0
-  word-past j h = unpicked-second (storedWord k j) (inRange k) (ltb j (2 ^ k)) (le-ltb j (2 ^ k) h)
-
-  pub no-word : inRange k ≡ false → (j : ℕ) → wordOr0 k j ≡ 0
-  no-word r j = unpicked-first (storedWord k j) (inRange k) (ltb j (2 ^ k)) r
+  no-node r j = rw r
 
   pub has-word : inRange k ≡ true → (j : ℕ) → j < 2 ^ k → hasWord k j ≡ true
-  has-word r j h = and-eq-true-iff (inRange k) (ltb j (2 ^ k)) .1 (r, lt-ltb j (2 ^ k) h)
+  has-word r j h = rw (r, lt-ltb j (2 ^ k) h)
+
+  pub no-word : (j : ℕ) → orderedWords k ≤ j → hasWord k j ≡ false
+  no-word j h = past-choice (inRange k) j (2 ^ k) h
+
+  pub word-there : inRange k ≡ true → (j : ℕ) → j < 2 ^ k → wordOr0 k j ≡ storedWord k j
+  word-there r j h = rw (has-word r j h)
+
+  pub word-past : (j : ℕ) → orderedWords k ≤ j → wordOr0 k j ≡ 0
+  word-past j h = rw (no-word j h)
 
   pub judged-there : inRange k ≡ true → (j word : ℕ) → j < 2 ^ k → isRight k j word ≡ true → judged k j word ≡ node k j
-  judged-there r j word h t = judged-right j word (and-eq-true-iff (hasWord k j) (isRight k j word) .1 (has-word r j h, t))
+  judged-there r j word h t = judged-right j word (rw (has-word r j h, t))
 
   pub judged-wrong : (j word : ℕ) → isRight k j word ≡ false → judged k j word ≡ 0
-  judged-wrong j word t = unpicked-second (decode k j word) (hasWord k j) (isRight k j word) t
+  judged-wrong j word t = rw (t, and-false)
 
-  pub judged-past : (j word : ℕ) → 2 ^ k ≤ j → judged k j word ≡ 0
-  judged-past j word h =
-      unpicked-first (decode k j word) (hasWord k j) (isRight k j word) (rw (le-ltb j (2 ^ k) h) (and-false (inRange k)))
-
-  pub none-judged : inRange k ≡ false → (j word : ℕ) → judged k j word ≡ 0
-  none-judged r j word =
-      unpicked-first (decode k j word) (hasWord k j) (isRight k j word) (ap (λ (a : Bool). a && ltb j (2 ^ k)) r)
+  pub judged-past : (j word : ℕ) → orderedWords k ≤ j → judged k j word ≡ 0
+  judged-past j word h = rw (no-word j h)

@@ -3,8 +3,6 @@
 use mathlib.Core.Path.{_≡_, sym, ap, _∙_}
 use Prim.Native.Nat.{ℕ, _+_, _*_, _^_, _≤_, _<_}
 use native.Mathlib.Omega.{arith}
-use borrow.Author.Tests.{lt-ltb}
-use Rattle.bits.specs.Bits.{powerOr0}
 use lib.Pow.{pow-add, pow-mono, pow-lt}
 
 -- 2 × 2^n
@@ -34,7 +32,3 @@ step k a =
 -- and is above the number of words
 pub step-wide : (k a : ℕ) → 2 ^ k < 2 ^ (k + (a + 1))
 step-wide k a = pow-lt (omega arith)
-
--- a power below 2^64 has its place
-pub placed : (n : ℕ) → n < 64 → powerOr0 n ≡ 2 ^ n
-placed n h = rw (lt-ltb n 64 h)
