@@ -5,7 +5,7 @@ use mathlib.Core.Bool.{Bool, true, false, cond, not, _&&_, and-eq-true-iff, and-
 use Prim.Native.Nat.{ℕ, _+_, _-_, _*_, _%_, _^_, _≤_, _<_}
 use native.Mathlib.Nat.{mod-lt, lt-of-not-le, zero-mul}
 use native.Mathlib.Omega.{arith}
-use lib.Dec.{leb, ltb, eqb}
+use lib.Dec.{ltb, eqb}
 use lib.Pow.{pow-pos}
 use borrow.Author.Tests.{eq-eqb, ne-eqb, eqb-true, ltb-true, le-leb, lt-leb, lt-ltb, le-ltb}
 use Rattle.precision.specs.Precision.{wordWidth, inRange, orderedWords}
@@ -13,8 +13,9 @@ use Rattle.quotient.specs.Quotient.{roundedUp, roundsUp}
 use Rattle.quotient.proofs.Laws.{reaches, antitone}
 use Rattle.nodes.specs.Nodes.{node, storedWord, decodeBelow, decode, hasWord, isRight, judged, nodeOr0, wordOr0}
 use Rattle.nodes.proofs.Laws as laws
-use Rattle.nodes.proofs.Laws.{nodeAt}
-use Rattle.nodes.proofs.Powers.{numerator, wide, double, step, step-wide}
+use Rattle.nodes.proofs.Laws.{Shape, nodeAt}
+use Rattle.nodes.proofs.Powers as powers
+use Rattle.nodes.proofs.Powers.{numerator, double, step, step-wide}
 
 past-choice : (b : Bool) (j n : ℕ) → cond b n 0 ≤ j → (b && ltb j n) ≡ false
 past-choice true j n h = le-ltb j n h
@@ -25,6 +26,9 @@ or-zero true x h = ne-eqb x 0 (λ e. omega (arith, e, h refl))
 or-zero false x h = refl
 
 module _ (k : ℕ) where
+  shape : Shape (2 ^ (2 * k + 2)) (2 ^ k)
+  shape = powers.shape k 2 (omega arith)
+
   -- node j over plain numbers
   pub node-at : (j : ℕ) → node k j ≡ nodeAt (2 ^ (2 * k + 2)) (2 ^ k) j
   node-at j = ap (λ (M : ℕ). roundedUp M (2 ^ k + j)) (numerator k 2)
@@ -35,25 +39,25 @@ module _ (k : ℕ) where
 
   -- node 0 is 2^(2k+3)
   pub node-first : node k 0 ≡ 2 ^ (2 * k + 3)
-  node-first = node-at 0 ∙ laws.first (2 ^ (2 * k + 2)) (2 ^ k) (pow-pos k) (wide k 2 (omega arith)) ∙ lead-double
+  node-first = node-at 0 ∙ laws.first shape ∙ lead-double
 
   -- node 2^k is 2^(2k+2)
   pub node-last : node k (2 ^ k) ≡ 2 ^ (2 * k + 2)
-  node-last = node-at (2 ^ k) ∙ laws.last (2 ^ (2 * k + 2)) (2 ^ k) (pow-pos k) (wide k 2 (omega arith))
+  node-last = node-at (2 ^ k) ∙ laws.last shape
 
   -- a node before node 2^k is above 2^(2k+2)
   pub node-above : (j : ℕ) → j < 2 ^ k → 2 ^ (2 * k + 2) < node k j
-  node-above j h = rw node-at (laws.above (2 ^ (2 * k + 2)) (2 ^ k) (pow-pos k) (wide k 2 (omega arith)) j h)
+  node-above j h = rw node-at (laws.above shape j h)
 
   -- a node after node 0 is below 2^(2k+3)
   pub node-below : (j : ℕ) → 0 < j → node k j < 2 ^ (2 * k + 3)
   node-below j h =
-      rw (node-at, ← lead-double) (laws.below (2 ^ (2 * k + 2)) (2 ^ k) (pow-pos k) (wide k 2 (omega arith)) j h)
+      rw (node-at, ← lead-double) (laws.below shape j h)
 
   -- each node is below the one before it
   pub node-falls : (j : ℕ) → j < 2 ^ k → node k (j + 1) < node k j
   node-falls j h =
-      rw (node-at j, node-at (j + 1)) (laws.falls (2 ^ (2 * k + 2)) (2 ^ k) (pow-pos k) (wide k 2 (omega arith)) j h)
+      rw (node-at j, node-at (j + 1)) (laws.falls shape j h)
 
   -- a later node is no greater
   pub node-ordered : {i j : ℕ} → i ≤ j → node k j ≤ node k i
@@ -63,7 +67,7 @@ module _ (k : ℕ) where
   pub node-near : (j : ℕ) → node k j < node k (j + 1) + 2 ^ (k + 3)
   node-near j =
       rw (node-at j, node-at (j + 1))
-      (laws.near (2 ^ (2 * k + 2)) (2 ^ k) (pow-pos k) (wide k 2 (omega arith)) (2 ^ (k + 3)) (step k 2) (step-wide k 2) j)
+      (laws.near shape (2 ^ (k + 3)) (step k 2) (step-wide k 2) j)
 
   -- no node is 0
   pub node-positive : (j : ℕ) → 0 < node k j
@@ -78,18 +82,18 @@ module _ (k : ℕ) where
 
   -- the word of node 0 is zero
   pub stored-word-first : storedWord k 0 ≡ 0
-  stored-word-first = rw node-at (laws.word-first (2 ^ (2 * k + 2)) (2 ^ k) (pow-pos k) (wide k 2 (omega arith)))
+  stored-word-first = rw node-at (laws.word-first shape)
 
   -- the word of a node between is what the node has above the leading one
   pub stored-word-between : (j : ℕ) → 0 < j → j < 2 ^ k → storedWord k j ≡ node k j - 2 ^ (2 * k + 2)
   stored-word-between j h l =
-      rw node-at (laws.word-between (2 ^ (2 * k + 2)) (2 ^ k) (pow-pos k) (wide k 2 (omega arith)) j h l)
+      rw node-at (laws.word-between shape j h l)
 
   -- the test by a product alone says whether a word is right
   pub judge-right : (j word : ℕ) → j < 2 ^ k → word < 2 ^ wordWidth k
       → roundsUp (2 ^ (3 * k + 3)) (2 ^ k + j) (decodeBelow (2 ^ wordWidth k) j word) ≡ isRight k j word
   judge-right j word h l =
-      rw (numerator k 2) (laws.judges (2 ^ (2 * k + 2)) (2 ^ k) (pow-pos k) (wide k 2 (omega arith)) j word h l)
+      rw (numerator k 2) (laws.judges shape j word h l)
 
   -- a word of more bits is wrong
   pub long-word-wrong : (j word : ℕ) → 2 ^ wordWidth k ≤ word → isRight k j word ≡ false
@@ -107,7 +111,7 @@ module _ (k : ℕ) where
   pub decode-right : (j word : ℕ) → j < 2 ^ k → isRight k j word ≡ true → decode k j word ≡ node k j
   decode-right j word h t =
       decode-before j word h
-      ∙ laws.right-decodes (2 ^ (2 * k + 2)) (2 ^ k) (pow-pos k) (wide k 2 (omega arith)) j word h
+      ∙ laws.right-decodes shape j word h
       (eqb-true word (storedWord k j) t ∙ ap (λ (c : ℕ). c % 2 ^ (2 * k + 2)) (node-at j))
       ∙ sym (node-at j)
 

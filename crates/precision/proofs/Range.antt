@@ -1,4 +1,4 @@
--- The test of a precision's range, and the range in orders.
+-- The test of a precision's range, the range in orders, and what the count of the ordered words says of k.
 -- Assumes nothing.
 use mathlib.Core.Path.{_≡_, refl, sym, _∙_}
 use mathlib.Core.Bool.{Bool, true, false, cond, and-eq-true-iff}
@@ -46,6 +46,6 @@ not-chosen : (b : Bool) (n : ℕ) → 0 < n → cond b n 0 ≡ 0 → b ≡ false
 not-chosen true n h e = absurd (omega (arith, e))
 not-chosen false n h e = refl
 
--- where none are, k does not pass
+-- where no word is ordered, k does not pass
 pub no-words : (k : ℕ) → orderedWords k ≡ 0 → inRange k ≡ false
 no-words k e = not-chosen (inRange k) (wordCount k) (pow-pos k) e
