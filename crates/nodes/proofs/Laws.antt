@@ -7,8 +7,9 @@ use native.Mathlib.Nat.{le-refl, zero-lt-suc, not-suc-le-zero, add-assoc, mul-le
 use native.Mathlib.Omega.{arith}
 use lib.Dec.{eqb}
 use borrow.Author.Tests.{eq-eqb, ne-eqb, eqb-true}
+use Rattle.truth.proofs.Bools.{same}
 use Rattle.quotient.specs.Quotient.{roundedUp, roundsUp}
-use Rattle.quotient.proofs.Laws.{same, reaches, passes-less, unique, rounds-up}
+use Rattle.quotient.proofs.Laws.{reaches, passes-less, unique, rounds-up}
 use Rattle.nodes.specs.Nodes.{decodeBelow}
 
 -- what is asked of H and K
