@@ -63,6 +63,11 @@ refused-value [] v = λ f. absurd (f refl)
 refused-value (r ∷ rs) v =
     chosen (λ o. (o .number ≡ 0 → ⊥) → o .value ≡ 0) (r .applies) (turnedBack r) (outcome rs v) (λ f. refl) (refused-value rs v)
 
+-- a call that gives 0 has the value 0 in any case
+pub value-of-0 : (rs : List Refusal) → outcome rs 0 .value ≡ 0
+value-of-0 [] = refl
+value-of-0 (r ∷ rs) = chosen (λ o. o .value ≡ 0) (r .applies) (turnedBack r) (outcome rs 0) refl (value-of-0 rs)
+
 -- a served call has place 0 and its value
 pub served-value : (rs : List Refusal) (v : ℕ) → T (numbered rs) → outcome rs v .number ≡ 0 → (outcome rs v .place ≡ 0) × (outcome rs v .value ≡ v)
 served-value [] v t = λ e. (refl, refl)

@@ -1,0 +1,5 @@
+pub mod Demand1
+pub mod Demand2
+pub mod Examples
+pub mod Iff
+pub mod Support
