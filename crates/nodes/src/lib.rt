@@ -34,7 +34,7 @@ pub fn word(k: Precision, j: u32) -> u64
     if j == 0 {
         return 0;
     }
-    quotient::rounded_up(numerator(k.0), count + j) - lead(k.0)
+    value(k, j).0 - lead(k.0)
 }
 
 // The value of a word that is right at node j, 0 for a wrong word and where node j has none. It multiplies and does not divide.

@@ -3,11 +3,10 @@
 use mathlib.Core.Path.{_≡_, sym, _∙_}
 use Prim.Native.Nat.{_<_}
 use native.Mathlib.Omega.{arith}
-use lib.Pow.{pow-mono}
 use borrow.Author.Needs.{needs}
 use Rattle.precision.proofs.Range.{Counted, counted}
 use Rattle.nodes.specs.Nodes.{node}
-use Rattle.nodes.proofs.Nodes.{word-past, word-there, node-above, stored-word-first, stored-word-between}
+use Rattle.nodes.proofs.Nodes.{node-there, word-past, word-there, node-above, stored-word-first, stored-word-between}
 use Rattle.nodes.proofs.word.Statement.{statement}
 use Rattle.nodes.proofs.word.Tie as tie
 
@@ -29,49 +28,34 @@ returns-2 c =
     rw (c .if2 .taken)
     (sym (word-there k (has (c .before) .ranged) 0 (rw (c .if2 .taken) at (has (c .before) .below)) ∙ stored-word-first k))
 
-numerator-requires : tie.Need-numerator-requires
-numerator-requires c κs = has (c .before) .small
-
-add-rounded-up : tie.Need-add-rounded-up
-add-rounded-up c = omega (arith, has (c .before .before) .words, pow-mono (has (c .before .before) .small))
-
-rounded-up-requires : tie.Need-rounded-up-requires
-rounded-up-requires c κs = search needs
+value-requires : tie.Need-value-requires
+value-requires c κs = search needs
 
 lead-requires : tie.Need-lead-requires
-lead-requires c κs = has (c .before .before .before) .small
+lead-requires c κs = has (c .before .before) .small
 
--- the quotient is the node
-quotient : (c : tie.After-rounded-up) →
-    c .rounded-up .result
-    ≡ node (c .before .before .before .before .before .args .k .0) (c .before .before .before .before .before .args .j)
-quotient c = rw (c .rounded-up .ensures, c .before .numerator .ensures, has (c .before .before .before) .words)
+-- the value is the node
+node-value :
+    (c : tie.After-value) →
+    c .value .result .0 ≡ node (c .before .before .before .before .args .k .0) (c .before .before .before .before .args .j)
+node-value c =
+    let a = c .before .before .before .before .args in
+    let known = has (c .before .before) in
+    c .value .ensures ∙ node-there (a .k .0) (known .ranged) (a .j) (omega (arith, known .below))
 
 sub-result : tie.Need-sub-result
 sub-result c =
     let a = c .before .before .before .before .before .before .args in
-    omega (arith, quotient (c .before), c .lead .ensures, node-above (a .k .0) (a .j) (has (c .before .before .before .before) .below))
+    omega (arith, node-value (c .before .before), c .before .lead .ensures, node-above (a .k .0) (a .j) (has (c .before .before .before .before) .below))
 
 returns-3 : tie.Need-returns-3
 returns-3 c =
     let a = c .before .before .before .before .before .before .args in
+    let known = has (c .before .before .before .before) in
     let j-pos : 0 < a .j = omega (arith, c .before .before .before .if2 .left) in
-    let h = has (c .before .before .before .before) .below in
-    rw (quotient (c .before), c .lead .ensures)
-    (sym
-    (word-there (a .k .0) (has (c .before .before .before .before) .ranged) (a .j) h
-    ∙ stored-word-between (a .k .0) (a .j) j-pos h))
+    rw (node-value (c .before .before), c .before .lead .ensures)
+    (sym (word-there (a .k .0) (known .ranged) (a .j) (known .below) ∙ stored-word-between (a .k .0) (a .j) j-pos (known .below)))
 
 pub word-spec : {M : Type 1} → statement M
 word-spec =
-    tie.close
-    (tie.spec
-    word-count-requires
-    returns
-    returns-2
-    numerator-requires
-    add-rounded-up
-    rounded-up-requires
-    lead-requires
-    sub-result
-    returns-3)
+    tie.close (tie.spec word-count-requires returns returns-2 value-requires lead-requires sub-result returns-3)
