@@ -16,24 +16,10 @@ use Rattle.image.specs.Refusals.{nodeRefusal, imageRefusal, wordRefusal}
 use Rattle.image.specs.Calls.{buildRefusals, buildOutcome, buildLeaves, checkRefusals, checkOutcome, nodeRefusals, nodeOutcome, shownPart}
 use Rattle.statements.specs.Terms.{IsPrecision, IsLongEnough, IsRightAt}
 use Rattle.statements.proofs.Iff.{joined, both, row3, row4, same, some-wrong, none-wrong}
-use Rattle.statements.proofs.Support.{
-  alone,
-  refuses-1,
-  refuses-2,
-  later-number,
-  left-as-found,
-  built-rest,
-  built-as-long,
-  first-wrong,
-  node-number-3,
-  node-number-6,
-  node-number-0,
-  node-place,
-  served-decodes,
-  shown-empty,
-  shown-length,
-  shown-bytes,
-}
+use Rattle.statements.proofs.Built.{left-as-found, built-rest, built-as-long}
+use Rattle.statements.proofs.Nodes.{served-decodes}
+use Rattle.statements.proofs.Numbers.{alone, refuses-1, refuses-2, later-number, first-wrong, node-number-3, node-number-6, node-number-0, node-place}
+use Rattle.statements.proofs.Parts.{shown-empty, shown-length, shown-bytes}
 
 -- The builder.
 module _ (k : ℕ) (s : List ℕ) where

@@ -21,16 +21,18 @@ use Rattle.image.proofs.Laws.{whole-bytes, image-length, right-front, front-rig
 use Rattle.statements.specs.Terms.{IsPrecision, IsLongEnough, IsRightAt}
 use Rattle.statements.proofs.Iff.{joined}
 use Rattle.statements.proofs.Demand1.{check-serves}
-use Rattle.statements.proofs.Support
+use Rattle.statements.proofs.Built
+use Rattle.statements.proofs.Depends
+use Rattle.statements.proofs.Nodes
 
 -- The nodes (document 002, Algorithm 1), for every k.
 module _ (k : ℕ) where
   -- c(j) is the least whole number with c × i ≥ 2^(3k+3), where i = 2^k + j
   pub node-reaches : (j : ℕ) → 2 ^ (3 * k + 3) ≤ node k j * (2 ^ k + j)
-  node-reaches j = reaches (2 ^ (3 * k + 3)) (2 ^ k + j) (Support.index-positive k j)
+  node-reaches j = reaches (2 ^ (3 * k + 3)) (2 ^ k + j) (Nodes.index-positive k j)
 
   pub node-least : (j c : ℕ) → 2 ^ (3 * k + 3) ≤ c * (2 ^ k + j) → node k j ≤ c
-  node-least j = least (2 ^ (3 * k + 3)) (2 ^ k + j) (Support.index-positive k j)
+  node-least j = least (2 ^ (3 * k + 3)) (2 ^ k + j) (Nodes.index-positive k j)
 
   -- c(0) = 2^(2k+3) and c(2^k) = 2^(2k+2)
   pub first-node : node k 0 ≡ 2 ^ (2 * k + 3)
@@ -45,7 +47,7 @@ module _ (k : ℕ) where
 
   -- so but for node 0 every value has 2k + 3 bits with a leading one
   pub node-leading-one : (j : ℕ) → 0 < j → j ≤ 2 ^ k → node k j / 2 ^ (2 * k + 2) ≡ 1
-  node-leading-one = Support.leading-one k
+  node-leading-one = Nodes.leading-one k
 
   -- c falls from node to node
   pub node-step : (j : ℕ) → j < 2 ^ k → node k (j + 1) < node k j
@@ -62,19 +64,19 @@ module _ (k : ℕ) (p : IsPrecision k) where
 
   -- the words of a built image are c(j) modulo 2^(2k+2), whatever the buffer held before
   pub built-word : (s : List ℕ) → IsLongEnough k s → (j : ℕ) → j < 2 ^ k → wordOf k (buildLeaves k s) j ≡ node k j % 2 ^ (2 * k + 2)
-  built-word s l j h = Support.built-words k s p l j h
+  built-word s l j h = Built.built-words k s p l j h
 
   -- most significant bit first, with no padding: bit b of word j is bit j × w + b of the image
   pub image-bit : (j b : ℕ) → j < 2 ^ k → b < 2 * k + 2 → bitAt (image k) (j * (2 * k + 2) + b) ≡ bitOfWord (2 * k + 2) (node k j % 2 ^ (2 * k + 2)) b
-  image-bit j b h l = Support.image-bits k j b h l
+  image-bit j b h l = Built.image-bits k j b h l
 
   -- every node read back from a buffer that was built is served and is c(j), whatever the buffer held before
   pub node-read-back : (s : List ℕ) → IsLongEnough k s → (j : ℕ) → j ≤ 2 ^ k → nodeOutcome k (buildLeaves k s) j ≡ served (node k j)
-  node-read-back s l j h = Support.read-back k s p l j h
+  node-read-back s l j h = Built.read-back k s p l j h
 
   -- and the buffer passes the check
   pub built-passes : (s : List ℕ) → IsLongEnough k s → checkOutcome k (buildLeaves k s) ≡ served 0
-  built-passes s l = Support.built-checks k s p l
+  built-passes s l = Built.built-checks k s p l
 
   -- an image passes the check exactly when each word is the construction's
   pub check-passes-words : (s : List ℕ) → IsLongEnough k s → (checkOutcome k s .number ≡ 0) ↔ ((j : ℕ) → j < 2 ^ k → wordOf k s j ≡ node k j % 2 ^ (2 * k + 2))
@@ -88,20 +90,20 @@ module _ (k : ℕ) (p : IsPrecision k) where
 module _ (k : ℕ) (s t : List ℕ) (l : IsLongEnough k s) (m : IsLongEnough k t) where
   -- a node's answer depends on its own word alone, and at node 2^k on none
   pub node-by-its-word : (j : ℕ) → (j < 2 ^ k → wordOf k s j ≡ wordOf k t j) → nodeOutcome k s j ≡ nodeOutcome k t j
-  node-by-its-word = Support.node-same k s t l m
+  node-by-its-word = Depends.node-same k s t l m
 
   -- the check's depends on the words of the image alone
   pub check-by-words : ((j : ℕ) → j < 2 ^ k → wordOf k s j ≡ wordOf k t j) → checkOutcome k s ≡ checkOutcome k t
-  check-by-words = Support.check-same k s t l m
+  check-by-words = Depends.check-same k s t l m
 
   -- the word of node j stands in its own bytes, whatever follows the image and however long the buffers are
   pub word-by-its-bytes : (j : ℕ) → ((i : ℕ) → j * (2 * k + 2) / 8 ≤ i → i ≤ (j * (2 * k + 2) + (2 * k + 2) - 1) / 8 → getD s i 0 ≡ getD t i 0) → wordOf k s j ≡ wordOf k t j
-  word-by-its-bytes j = Support.word-same k s t j
+  word-by-its-bytes j = Depends.word-same k s t j
 
 -- A zero word means 2^(2k+3) at node 0; at any other node it is wrong.
 module _ (k : ℕ) (s : List ℕ) where
   pub zero-word-first : wordOf k s 0 ≡ 0 → IsRightAt k s 0
-  zero-word-first = Support.zero-right k s
+  zero-word-first = Nodes.zero-right k s
 
   pub zero-word-wrong : (j : ℕ) → 0 < j → j < 2 ^ k → wordOf k s j ≡ 0 → IsRightAt k s j → ⊥
-  zero-word-wrong = Support.zero-wrong k s
+  zero-word-wrong = Nodes.zero-wrong k s

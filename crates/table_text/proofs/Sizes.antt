@@ -12,28 +12,16 @@ use lib.ListN.{length, length-append}
 use lib.Pow.{pow-pos, pow-mono}
 use Rattle.decimal.specs.Decimal.{decimal}
 use Rattle.decimal.proofs.Laws.{length-decimal, length-decimal-below}
-use Rattle.bits.specs.Bits.{powerOr0}
 use Rattle.precision.specs.Precision.{inRange, wordWidth, imageLength}
+use Rattle.precision.proofs.Range.{in-range}
 use Rattle.quotient.specs.Quotient.{roundedUp}
 use Rattle.quotient.proofs.Laws.{exact, antitone}
 use Rattle.nodes.specs.Nodes.{node, storedWord}
 use Rattle.table_text.specs.TableText.{field, wordField, line, lines, header, textFor, tableText, precisionOf, longestText, printedLength, space, lineFeed, hyphenText}
 
--- a precision in range is 1 to 12
-pub range : (k : ℕ) → inRange k ≡ true → (1 ≤ k) × (k ≤ 12)
-range k e = go (leb 1 k) (leb k 12) refl refl e
-  where
-    go : (x y : Bool) → leb 1 k ≡ x → leb k 12 ≡ y → (x && y) ≡ true → (1 ≤ k) × (k ≤ 12)
-    go true true p q r = (leb-true 1 k p, leb-true k 12 q)
-    go true false p q r = absurd (let z : _≡_ {A = ℕ} 0 1 = cc in omega arith)
-    go false y p q r = absurd (let z : _≡_ {A = ℕ} 0 1 = cc in omega arith)
-
--- so its table has at most 4096 words
+-- the table of a precision has at most 4096 words
 pub count-most : (k : ℕ) → inRange k ≡ true → 2 ^ k ≤ 4096
-count-most k e = pow-mono {i = k} {j = 12} (range k e .1)
-
-pub power-in : (k : ℕ) → inRange k ≡ true → powerOr0 k ≡ 2 ^ k
-power-in k e = rw (lt-ltb k 64 (omega (arith, range k e .1)))
+count-most k e = pow-mono {i = k} {j = 12} (in-range k e .1)
 
 -- a number and the byte after it
 pub length-field : (n b : ℕ) → length (field n b) ≡ length (decimal n) + 1
@@ -52,13 +40,13 @@ field-below d n b p h = omega (arith, length-field n b, length-decimal-below d n
 -- a node's value is at most what is divided for it
 node-below : (k j : ℕ) → inRange k ≡ true → node k j < 10 ^ 12
 node-below k j e =
-    let top : 2 ^ (3 * k + 3) ≤ 2 ^ 39 = pow-mono {i = 3 * k + 3} {j = 39} (omega (arith, range k e .1)) in
+    let top : 2 ^ (3 * k + 3) ≤ 2 ^ 39 = pow-mono {i = 3 * k + 3} {j = 39} (omega (arith, in-range k e .1)) in
     let one : roundedUp (2 ^ (3 * k + 3)) 1 ≡ 2 ^ (3 * k + 3) = rw mul-one at (exact (2 ^ (3 * k + 3)) 1 (omega arith)) in
     omega (arith, top, one, antitone (2 ^ (3 * k + 3)) {i = 1} {i' = 2 ^ k + j} (omega arith) (omega (arith, pow-pos k)))
 
 word-below : (k j : ℕ) → inRange k ≡ true → storedWord k j < 10 ^ 8
 word-below k j e =
-    omega (arith, mod-lt (node k j) (pow-pos (wordWidth k)), pow-mono {i = wordWidth k} {j = 26} (omega (arith, range k e .1)))
+    omega (arith, mod-lt (node k j) (pow-pos (wordWidth k)), pow-mono {i = wordWidth k} {j = 26} (omega (arith, in-range k e .1)))
 
 word-most : (k j : ℕ) → inRange k ≡ true → length (wordField k j) ≤ 9
 word-most k j e = go (eqb j (2 ^ k))
@@ -89,7 +77,7 @@ lines-most k (suc n) e h = rw length-append (omega (arith, lines-most k n e (ome
 pub header-most : (k : ℕ) → inRange k ≡ true → length (header k) ≤ 32
 unfolding header
 header-most k e =
-    let r = range k e in
+    let r = in-range k e in
     let bytes : imageLength k < 10 ^ 5 = omega (arith, mul-le-mul (count-most k e) (wide r)) in
     simp length-append
     (omega (arith, field-below 2 k space (omega arith) (omega (arith, r .1)), field-below 5 (imageLength k) lineFeed (omega arith) bytes))

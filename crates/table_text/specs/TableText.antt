@@ -32,11 +32,11 @@ precisionOf s = cond (isOrder s) (decimalValue (body s)) 0
 unfoldable pub field : ℕ → ℕ → List ℕ
 field n b = decimal n ++ (b ∷ [])
 
--- the last column of node j: its stored word, and a hyphen at node 2^k, whose word is not stored
 -- "-" and a line feed
 abbrev pub hyphenText : List ℕ
 hyphenText = 45 ∷ lineFeed ∷ []
 
+-- the last column of node j: its stored word, and a hyphen at node 2^k, whose word is not stored
 abbrev pub wordField : ℕ → ℕ → List ℕ
 wordField k j = cond (eqb j (2 ^ k)) hyphenText (field (storedWord k j) lineFeed)
 

@@ -138,7 +138,7 @@ fn table(out: &mut [u8], k: Precision) -> usize
     requires { ⌜ (inRange (k .0) ≡ true) × (longestText ≤ length (now out)) ⌝ }
     ensures { λ r. ⌜ Wrote (now (out .entry)) 0 (textFor true (k .0)) r (now (out .exit)) ⌝ }
 {
-    let count = bits::power(k.0) as u32;
+    let count = k.word_count();
     let first = header(out, k);
     let last = rows(out, first, k, count);
     last_row(out, last, count as u64, nodes::value(k, count).0)

@@ -28,7 +28,6 @@ abbrev put-digits-below : ℕ → In 1 put-digits-kinds.ps
 put-digits-below t =
     and 1 put-digits-kinds.ps (falls 1 put-digits-kinds.ps _<_ μ-put-digits t) put-digits.Pre
 
--- src/lib.rt:52:20
 put-digits-add-out :
     (t : ℕ) →
     put-digits-lts.Need-add-out
@@ -37,7 +36,6 @@ put-digits-add-out :
     put-digits.Post
 put-digits-add-out t c = omega arith
 
--- src/lib.rt:52:19
 put-digits-cast-out :
     (t : ℕ) →
     put-digits-lts.Need-cast-out
@@ -46,7 +44,6 @@ put-digits-cast-out :
     put-digits.Post
 put-digits-cast-out t c = omega arith
 
--- src/lib.rt:52:9
 put-digits-slice-write-out : (t : ℕ) → put-digits-lts.Need-slice-write-out (
   put-digits-below t,
   put-digits.Post,
@@ -55,21 +52,18 @@ put-digits-slice-write-out t c =
     let a = c .before .before .args in
     omega (arith, ap length (decimal-small (a .n) (c .if1 .taken)))
 
--- src/lib.rt:53:16
 put-digits-add-result : (t : ℕ) → put-digits-lts.Need-add-result (
   put-digits-below t,
   put-digits.Post,
 ) (put-digits-at t) put-digits.Post
 put-digits-add-result t c = omega arith
 
--- src/lib.rt:53:9
 put-digits-same-length : (t : ℕ) → put-digits-lts.Need-same-length (
   put-digits-below t,
   put-digits.Post,
 ) (put-digits-at t) put-digits.Post
 put-digits-same-length t c = simp length-set
 
--- src/lib.rt:53:9
 put-digits-returns :
     (t : ℕ) →
     put-digits-lts.Need-returns
@@ -80,7 +74,6 @@ put-digits-returns t c =
     let a = c .before .before .args in
     rw (decimal-small (a .n) (c .if1 .taken)) (refl, sym (written-one (a .out .now) (a .at) (48 + a .n) (omega (arith, ap length (decimal-small (a .n) (c .if1 .taken))))))
 
--- src/lib.rt:55:9
 put-digits-put-digits-requires : (t : ℕ) → put-digits-lts.Need-put-digits-requires (
   put-digits-below t,
   put-digits.Post,
@@ -89,21 +82,18 @@ put-digits-put-digits-requires t c κs =
     let a = c .before .before .before .args in
     (omega arith, omega (arith, length-large (a .n) (c .before .if1 .left) (omega arith)))
 
--- src/lib.rt:56:18
 put-digits-add-out-2 : (t : ℕ) → put-digits-lts.Need-add-out-2 (
   put-digits-below t,
   put-digits.Post,
 ) (put-digits-at t) put-digits.Post
 put-digits-add-out-2 t c = omega arith
 
--- src/lib.rt:56:17
 put-digits-cast-out-2 : (t : ℕ) → put-digits-lts.Need-cast-out-2 (
   put-digits-below t,
   put-digits.Post,
 ) (put-digits-at t) put-digits.Post
 put-digits-cast-out-2 t c = omega arith
 
--- src/lib.rt:56:5
 put-digits-slice-write-out-2 : (t : ℕ) → put-digits-lts.Need-slice-write-out-2 (
   put-digits-below t,
   put-digits.Post,
@@ -113,7 +103,6 @@ put-digits-slice-write-out-2 t c =
     let large = length-large (s .args .n) (c .before .before .before .before .if1 .left) (omega arith) in
     omega (arith, large, c .before .before .put-digits .kept .0, s .pre .1)
 
--- src/lib.rt:57:5
 put-digits-add-result-2 : (t : ℕ) → put-digits-lts.Need-add-result-2 (
   put-digits-below t,
   put-digits.Post,
@@ -123,7 +112,6 @@ put-digits-add-result-2 t c =
     let large = length-large (s .args .n) (c .before .before .before .before .if1 .left) (omega arith) in
     omega (arith, large, s .pre .1, s .good .0 .0)
 
--- src/lib.rt:46:1
 put-digits-same-length-2 : (t : ℕ) → put-digits-lts.Need-same-length-2 (
   put-digits-below t,
   put-digits.Post,
@@ -132,7 +120,6 @@ put-digits-same-length-2 t c =
     let s = c .before .before .before .before .before .before in
     length-set (c .before .before .put-digits .last .0) _ _ ∙ c .before .before .put-digits .kept .0
 
--- src/lib.rt:46:1
 put-digits-returns-2 : (t : ℕ) → put-digits-lts.Need-returns-2 (
   put-digits-below t,
   put-digits.Post,

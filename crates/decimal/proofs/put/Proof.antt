@@ -9,37 +9,28 @@ use Rattle.decimal.proofs.Laws.{length-decimal}
 use borrow.Author.Needs.{needs}
 use Rattle.decimal.proofs.put.Statement.{statement}
 use Rattle.decimal.proofs.put.Tie as tie
-use Rattle.decimal.proofs.put.Reads as reads
-use Rattle.decimal.proofs.put.Lts as lts
-use Rattle.decimal.proofs.put_digits.Reads as put-digits-reads
 
--- src/lib.rt:68:9
 returns : tie.Need-returns
 returns c =
     let a = c .before .before .args in
     rw (lt-leb (a .at + 20) (length (a .out .now)) (omega arith)) (refl, (refl, refl))
 
--- src/lib.rt:70:8
 sub-if2 : tie.Need-sub-if2
 sub-if2 c = search needs
 
--- src/lib.rt:71:9
 returns-2 : tie.Need-returns-2
 returns-2 c =
     let a = c .before .before .before .args in
     rw (lt-leb (a .at + 20) (length (a .out .now)) (omega arith)) (refl, (refl, refl))
 
--- src/lib.rt:73:5
 put-digits-requires : tie.Need-put-digits-requires
 put-digits-requires c κs =
     let a = c .before .before .before .before .args in
     omega (arith, length-decimal (a .n))
 
--- src/lib.rt:62:1
 same-length : tie.Need-same-length
 same-length c = search needs
 
--- src/lib.rt:62:1
 returns-3 : tie.Need-returns-3
 returns-3 c =
     let a = c .before .before .before .before .before .before .before .args in

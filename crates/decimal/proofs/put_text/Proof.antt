@@ -10,8 +10,6 @@ use lib.Seq.{paste, paste-zero, paste-suc, length-paste}
 use Rattle.decimal.proofs.Writing.{paste-written}
 use Rattle.decimal.proofs.put_text.Statement.{statement}
 use Rattle.decimal.proofs.put_text.Tie as tie
-use Rattle.decimal.proofs.put_text.Reads as reads
-use Rattle.decimal.proofs.put_text.Lts as lts
 
 abbrev Inv-loop : tie.InvT-loop
 Inv-loop out₀ at t i₀ out i = (i ≤ length t) × (at + length t ≤ length out₀) × (out ≡ paste out₀ at t i)
@@ -19,52 +17,42 @@ Inv-loop out₀ at t i₀ out i = (i ≤ length t) × (at + length t ≤ length 
 abbrev μ-loop : tie.MeasureT-loop
 μ-loop out₀ at t i₀ out i = length t - i
 
--- src/lib.rt:82:9
 returns : tie.Need-returns Inv-loop μ-loop
 returns c =
     let a = c .before .args in
     rw (lt-leb (a .at + length (a .t .now)) (length (a .out .now)) (omega arith)) (refl, refl)
 
--- src/lib.rt:84:8
 sub-if2 : tie.Need-sub-if2 Inv-loop μ-loop
 sub-if2 c = omega arith
 
--- src/lib.rt:85:9
 returns-2 : tie.Need-returns-2 Inv-loop μ-loop
 returns-2 c =
     let a = c .before .before .args in
     rw (lt-leb (a .at + length (a .t .now)) (length (a .out .now)) (omega arith)) (refl, refl)
 
--- src/lib.rt:88:5
 loop-holds : tie.Need-loop-holds Inv-loop μ-loop
 loop-holds c =
     let a = c .before .before .args in
     (omega arith, omega arith, paste-zero (a .out .now) (a .at) (a .t .now))
 
--- src/lib.rt:89:23
 shared-slice-read-out : tie.Need-shared-slice-read-out Inv-loop μ-loop
 shared-slice-read-out c = omega arith
 
--- src/lib.rt:89:13
 add-out : tie.Need-add-out Inv-loop μ-loop
 add-out c = omega arith
 
--- src/lib.rt:89:9
 slice-write-out : tie.Need-slice-write-out Inv-loop μ-loop
 slice-write-out c =
     let a = c .before .before .before .before .before .args in
     let l = c .before .before .loop in
     rw (l .inv .2, length-paste (a .out .now) (a .at) (a .t .now) (l .i) (omega arith) (l .inv .0)) (omega arith)
 
--- src/lib.rt:90:9
 add-i : tie.Need-add-i Inv-loop μ-loop
 add-i c = omega arith
 
--- src/lib.rt:88:5
 loop-less : tie.Need-loop-less Inv-loop μ-loop
 loop-less c = omega arith
 
--- src/lib.rt:88:5
 loop-again : tie.Need-loop-again Inv-loop μ-loop
 loop-again c =
     let a = c .before .before .before .before .before .args in
@@ -74,18 +62,15 @@ loop-again c =
       rw (l .inv .2, add-one) (paste-suc (a .out .now) (a .at) (a .t .now) (l .i) 0 (omega arith) (c .before .loop-test .taken)),
     )
 
--- src/lib.rt:92:5
 add-result : tie.Need-add-result Inv-loop μ-loop
 add-result c = omega arith
 
--- src/lib.rt:77:1
 same-length : tie.Need-same-length Inv-loop μ-loop
 same-length c =
     let a = c .before .before .before .before .args in
     let l = c .before .loop in
     rw (l .inv .2) (length-paste (a .out .now) (a .at) (a .t .now) (l .i) (omega arith) (l .inv .0))
 
--- src/lib.rt:77:1
 returns-3 : tie.Need-returns-3 Inv-loop μ-loop
 returns-3 c =
     let a = c .before .before .before .before .args in

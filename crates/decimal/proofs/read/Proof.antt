@@ -8,8 +8,6 @@ use Rattle.decimal.specs.Reading.{reading}
 use Rattle.decimal.proofs.Steps.{readingFrom, reading-none, reading-some, at-end, at-low, at-high, at-digit, at-over}
 use Rattle.decimal.proofs.read.Statement.{statement}
 use Rattle.decimal.proofs.read.Tie as tie
-use Rattle.decimal.proofs.read.Reads as reads
-use Rattle.decimal.proofs.read.Lts as lts
 
 abbrev Inv-loop : tie.InvT-loop
 Inv-loop s value₀ at₀ value at = (at ≤ length s) × (value < 2 ^ 64) × (reading s ≡ readingFrom value (drop at s))
@@ -17,41 +15,33 @@ Inv-loop s value₀ at₀ value at = (at ≤ length s) × (value < 2 ^ 64) × (r
 abbrev μ-loop : tie.MeasureT-loop
 μ-loop s value₀ at₀ value at = length s - at
 
--- src/lib.rt:23:9
 returns : tie.Need-returns Inv-loop μ-loop
 returns c = sym (reading-none (c .before .args .s .now) (omega arith))
 
--- src/lib.rt:27:5
 loop-holds : tie.Need-loop-holds Inv-loop μ-loop
 loop-holds c = (omega arith, omega arith, reading-some (c .before .args .s .now) (omega arith))
 
--- src/lib.rt:28:17
 shared-slice-read-b : tie.Need-shared-slice-read-b Inv-loop μ-loop
 shared-slice-read-b c = omega arith
 
--- src/lib.rt:30:13
 returns-2 : tie.Need-returns-2 Inv-loop μ-loop
 returns-2 c =
     let l = c .before .before .before .loop in
     sym (l .inv .2
     ∙ at-low (c .before .before .before .before .before .args .s .now) (l .value) (l .at) (c .before .before .loop-test .taken) (omega arith))
 
--- src/lib.rt:33:13
 returns-3 : tie.Need-returns-3 Inv-loop μ-loop
 returns-3 c =
     let l = c .before .before .before .before .loop in
     sym (l .inv .2
     ∙ at-high (c .before .before .before .before .before .before .args .s .now) (l .value) (l .at) (c .before .before .before .loop-test .taken) (omega arith))
 
--- src/lib.rt:35:21
 cast-digit : tie.Need-cast-digit Inv-loop μ-loop
 cast-digit c = omega arith
 
--- src/lib.rt:36:13
 sub-if4 : tie.Need-sub-if4 Inv-loop μ-loop
 sub-if4 c = omega arith
 
--- src/lib.rt:37:13
 returns-4 : tie.Need-returns-4 Inv-loop μ-loop
 returns-4 c =
     let l = c .before .before .before .before .before .loop in
@@ -59,23 +49,18 @@ returns-4 c =
     ∙ at-over (c .before .before .before .before .before .before .before .args .s .now) (l .value) (l .at)
     (c .before .before .before .before .loop-test .taken) (omega arith) (omega arith) (omega arith))
 
--- src/lib.rt:39:17
 mul-value : tie.Need-mul-value Inv-loop μ-loop
 mul-value c = omega arith
 
--- src/lib.rt:39:17
 add-value : tie.Need-add-value Inv-loop μ-loop
 add-value c = omega arith
 
--- src/lib.rt:40:9
 add-at : tie.Need-add-at Inv-loop μ-loop
 add-at c = omega arith
 
--- src/lib.rt:27:5
 loop-less : tie.Need-loop-less Inv-loop μ-loop
 loop-less c = omega arith
 
--- src/lib.rt:27:5
 loop-again : tie.Need-loop-again Inv-loop μ-loop
 loop-again c =
     let l = c .before .before .before .before .before .loop in (
@@ -86,7 +71,6 @@ loop-again c =
           (c .before .before .before .before .loop-test .taken) (omega arith) (omega arith),
     )
 
--- src/lib.rt:19:1
 returns-5 : tie.Need-returns-5 Inv-loop μ-loop
 returns-5 c =
     let l = c .before .loop in

@@ -7,51 +7,36 @@ use Rattle.table_text.proofs.Sizes.{printed-within}
 use borrow.Author.Needs.{needs}
 use Rattle.print_table.proofs.main.Statement.{statement}
 use Rattle.print_table.proofs.main.Tie as tie
-use Rattle.print_table.proofs.main.Reads as reads
-use Rattle.print_table.proofs.main.Lts as lts
-use Rattle.io.proofs.read_full.Reads as read-full-reads
-use Rattle.io.proofs.write_all.Reads as write-all-reads
-use Rattle.table_text.proofs.print.Reads as print-reads
 
--- src/main.rt:8:43
 slice-aggregate-read-full : tie.Need-slice-aggregate-read-full
 slice-aggregate-read-full c = search needs
 
--- src/main.rt:8:9
 read-full-requires : tie.Need-read-full-requires
 read-full-requires c κs = search needs
 
--- src/main.rt:10:36
 array-share-prefix-input : tie.Need-array-share-prefix-input
 array-share-prefix-input c = search needs
 
--- src/main.rt:10:36
 slice-aggregate-print : tie.Need-slice-aggregate-print
 slice-aggregate-print c = search needs
 
--- src/main.rt:10:51
 slice-aggregate-print-2 : tie.Need-slice-aggregate-print-2
 slice-aggregate-print-2 c = search needs
 
--- src/main.rt:10:9
 print-requires : tie.Need-print-requires
 print-requires c κs = search needs
 
--- src/main.rt:11:34
 array-share-prefix-text : tie.Need-array-share-prefix-text
 array-share-prefix-text c =
     omega (arith, printed-within _ _ (c .before .print .ensures .0), c .before .print .kept .1 .0)
 
--- src/main.rt:11:34
 slice-aggregate-write-all : tie.Need-slice-aggregate-write-all
 slice-aggregate-write-all c =
     sym (length-take-le (c .before .before .print .result) (c .before .before .print .last .1 .0) (omega (arith, printed-within _ _ (c .before .before .print .ensures .0), c .before .before .print .kept .1 .0)))
 
--- src/main.rt:11:5
 write-all-requires : tie.Need-write-all-requires
 write-all-requires c κs = search needs
 
--- src/main.rt:6:1
 returns : tie.Need-returns
 returns c = search needs
 

@@ -8,33 +8,25 @@ use Rattle.table_text.specs.TableText.{field}
 use borrow.Author.Needs.{needs}
 use Rattle.table_text.proofs.field.Statement.{statement}
 use Rattle.table_text.proofs.field.Tie as tie
-use Rattle.table_text.proofs.field.Reads as reads
-use Rattle.table_text.proofs.field.Lts as lts
-use Rattle.decimal.proofs.put.Reads as put-reads
 
--- src/lib.rt:56:9
 put-requires : tie.Need-put-requires
 put-requires c κs = search needs
 
--- src/lib.rt:57:5
 slice-write-out : tie.Need-slice-write-out
 slice-write-out c =
     let s = c .before .before .before .before .before in
     let w = wrote-room (s .args .out .now) (s .args .at) 20 (decimal (s .args .n)) (omega (arith, s .pre)) (c .before .before .put .ensures .0) (c .before .before .put .ensures .1 .0) in
     omega (arith, w .place, c .before .before .put .kept .0, length-decimal (s .args .n), s .pre)
 
--- src/lib.rt:58:5
 add-result : tie.Need-add-result
 add-result c =
     let s = c .before .before .before .before .before in
     let w = wrote-room (s .args .out .now) (s .args .at) 20 (decimal (s .args .n)) (omega (arith, s .pre)) (c .before .before .put .ensures .0) (c .before .before .put .ensures .1 .0) in
     omega (arith, w .place, length-decimal (s .args .n), s .pre, s .good .0 .0)
 
--- src/lib.rt:52:1
 same-length : tie.Need-same-length
 same-length c = search needs
 
--- src/lib.rt:52:1
 returns : tie.Need-returns
 unfolding field
 returns c =

@@ -9,41 +9,29 @@ use Rattle.table_text.proofs.Sizes.{field-most}
 use borrow.Author.Needs.{needs}
 use Rattle.table_text.proofs.header.Statement.{statement}
 use Rattle.table_text.proofs.header.Tie as tie
-use Rattle.table_text.proofs.header.Reads as reads
-use Rattle.table_text.proofs.header.Lts as lts
-use Rattle.precision.proofs.Precision.image_length.Reads as image-length-reads
-use Rattle.table_text.proofs.titled.Reads as titled-reads
 
--- src/lib.rt:102:31
 slice-aggregate-titled : tie.Need-slice-aggregate-titled
 slice-aggregate-titled c = search needs
 
--- src/lib.rt:102:46
 cast-titled : tie.Need-cast-titled
 cast-titled c = search needs
 
--- src/lib.rt:102:9
 titled-requires : tie.Need-titled-requires
 titled-requires c κs = search needs
 
--- src/lib.rt:103:23
 slice-aggregate-titled-2 : tie.Need-slice-aggregate-titled-2
 slice-aggregate-titled-2 c = search needs
 
--- src/lib.rt:103:34
 image-length-requires : tie.Need-image-length-requires
 image-length-requires c κs = search needs
 
--- src/lib.rt:103:5
 titled-requires-2 : tie.Need-titled-requires-2
 titled-requires-2 c κs =
     omega (arith, c .before .before .before .before .before .titled .ensures .place, c .before .before .before .before .before .titled .kept .0, c .before .before .before .before .before .before .before .before .before .before .pre .1, field-most (c .before .before .before .before .before .before .before .before .before .before .args .k .0) space)
 
--- src/lib.rt:98:1
 same-length : tie.Need-same-length
 same-length c = search needs
 
--- src/lib.rt:98:1
 returns : tie.Need-returns
 unfolding header
 returns c =

@@ -7,28 +7,19 @@ use Rattle.table_text.proofs.Sizes.{columns-most}
 use borrow.Author.Needs.{needs}
 use Rattle.table_text.proofs.last_row.Statement.{statement}
 use Rattle.table_text.proofs.last_row.Tie as tie
-use Rattle.table_text.proofs.last_row.Reads as reads
-use Rattle.table_text.proofs.last_row.Lts as lts
-use Rattle.decimal.proofs.put_text.Reads as put-text-reads
-use Rattle.table_text.proofs.columns.Reads as columns-reads
 
--- src/lib.rt:84:9
 columns-requires : tie.Need-columns-requires
 columns-requires c κs = search needs
 
--- src/lib.rt:85:34
 slice-aggregate-put-text : tie.Need-slice-aggregate-put-text
 slice-aggregate-put-text c = search needs
 
--- src/lib.rt:85:5
 put-text-requires : tie.Need-put-text-requires
 put-text-requires c κs = search needs
 
--- src/lib.rt:80:1
 same-length : tie.Need-same-length
 same-length c = search needs
 
--- src/lib.rt:80:1
 returns : tie.Need-returns
 returns c =
     let s = c .before .before .before .before .before .before .before .before .before .before in

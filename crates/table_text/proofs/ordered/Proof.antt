@@ -9,63 +9,48 @@ use Rattle.table_text.proofs.Orders.{order-short, order-long, order-ope
 use borrow.Author.Needs.{needs}
 use Rattle.table_text.proofs.ordered.Statement.{statement}
 use Rattle.table_text.proofs.ordered.Tie as tie
-use Rattle.table_text.proofs.ordered.Reads as reads
-use Rattle.table_text.proofs.ordered.Lts as lts
-use Rattle.decimal.proofs.read.Reads as read-reads
 
--- src/lib.rt:35:9
 returns : tie.Need-returns
 returns c =
     sym (order-short (c .before .before .args .input .now) (omega arith))
 
--- src/lib.rt:38:9
 returns-2 : tie.Need-returns-2
 returns-2 c =
     sym (order-long (c .before .before .before .args .input .now) (omega arith))
 
--- src/lib.rt:40:16
 sub-last : tie.Need-sub-last
 sub-last c = search needs
 
--- src/lib.rt:41:8
 shared-slice-read-if3 : tie.Need-shared-slice-read-if3
 shared-slice-read-if3 c = search needs
 
--- src/lib.rt:42:9
 returns-3 : tie.Need-returns-3
 returns-3 c =
     sym (order-open (c .before .before .before .before .before .args .input .now) (omega arith) (omega arith) (omega arith))
 
--- src/lib.rt:44:31
 slice-aggregate-read : tie.Need-slice-aggregate-read
 slice-aggregate-read c =
     let s = c .before .before .before .before .before .before .args .input .now in
     sym (length-take-le (length s - 1) s (omega arith))
 
--- src/lib.rt:44:9
 read-requires : tie.Need-read-requires
 read-requires c κs = search needs
 
--- src/lib.rt:46:25
 enum-known-found : tie.Need-enum-known-found
 enum-known-found c = search needs
 
--- src/lib.rt:46:41
 cast-t12 : tie.Need-cast-t12
 cast-t12 c =
     let known = order-small (c .before .before .before .before .before .before .before .before .before .before .args .input .now) (omega arith) (omega arith) (omega arith) _ (sym (c .before .before .before .read .ensures) ∙ c .before .found .given .1) in
     omega (arith, known)
 
--- src/lib.rt:47:27
 enum-told : tie.Need-enum-told
 enum-told c = search needs
 
--- src/lib.rt:30:1
 returns-4 : tie.Need-returns-4
 returns-4 c =
     sym (order-number (c .before .before .before .before .before .before .before .before .before .before .args .input .now) (omega arith) (omega arith) (omega arith) _ (sym (c .before .before .before .read .ensures) ∙ c .before .found .given .1))
 
--- src/lib.rt:30:1
 returns-5 : tie.Need-returns-5
 returns-5 c =
     sym (order-other (c .before .before .before .before .before .before .before .before .before .args .input .now) (omega arith) (omega arith) (omega arith) (sym (c .before .before .read .ensures) ∙ c .enum-told .given .1))

@@ -12,40 +12,27 @@ use Rattle.table_text.proofs.LineLaws.{text-refused, text-table}
 use borrow.Author.Needs.{needs}
 use Rattle.table_text.proofs.print.Statement.{statement}
 use Rattle.table_text.proofs.print.Tie as tie
-use Rattle.table_text.proofs.print.Reads as reads
-use Rattle.table_text.proofs.print.Lts as lts
-use Rattle.decimal.proofs.put_text.Reads as put-text-reads
-use Rattle.precision.proofs.Precision.in_range.Reads as in-range-reads
-use Rattle.table_text.proofs.ordered.Reads as ordered-reads
-use Rattle.table_text.proofs.table.Reads as table-reads
 
--- src/lib.rt:128:9
 returns : tie.Need-returns
 unfolding printed printedLength
 returns c =
     rw (lt-leb longestText (length (c .before .before .before .args .out .now)) (omega arith)) (refl, (refl, refl))
 
--- src/lib.rt:130:9
 ordered-requires : tie.Need-ordered-requires
 ordered-requires c κs = search needs
 
--- src/lib.rt:131:9
 in-range-requires : tie.Need-in-range-requires
 in-range-requires c κs = search needs
 
--- src/lib.rt:132:42
 slice-aggregate-put-text : tie.Need-slice-aggregate-put-text
 slice-aggregate-put-text c = search needs
 
--- src/lib.rt:132:9
 put-text-requires : tie.Need-put-text-requires
 put-text-requires c κs = search needs
 
--- src/lib.rt:132:9
 same-length : tie.Need-same-length
 same-length c = search needs
 
--- src/lib.rt:132:9
 returns-2 : tie.Need-returns-2
 unfolding printed printedLength
 returns-2 c =
@@ -55,16 +42,13 @@ returns-2 c =
     let w = wrote-room (a .out .now) 0 10 refusedText (omega arith) (c .before .before .put-text .ensures .0) (c .before .before .put-text .ensures .1) in
     rw (le-leb longestText (length (a .out .now)) (omega arith), text-refused (a .input .now) shut) (omega (arith, w .place), (w .bytes, refl))
 
--- src/lib.rt:134:5
 table-requires : tie.Need-table-requires
 table-requires c κs =
     (sym (c .before .before .in-range .ensures .0) ∙ not-false (c .before .before .in-range .result) (c .before .if2 .left), omega arith)
 
--- src/lib.rt:122:1
 same-length-2 : tie.Need-same-length-2
 same-length-2 c = search needs
 
--- src/lib.rt:122:1
 returns-3 : tie.Need-returns-3
 unfolding printed printedLength
 returns-3 c =

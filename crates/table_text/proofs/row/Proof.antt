@@ -6,25 +6,17 @@ use Rattle.table_text.proofs.Sizes.{columns-most}
 use borrow.Author.Needs.{needs}
 use Rattle.table_text.proofs.row.Statement.{statement}
 use Rattle.table_text.proofs.row.Tie as tie
-use Rattle.table_text.proofs.row.Reads as reads
-use Rattle.table_text.proofs.row.Lts as lts
-use Rattle.table_text.proofs.columns.Reads as columns-reads
-use Rattle.table_text.proofs.field.Reads as field-reads
 
--- src/lib.rt:75:9
 columns-requires : tie.Need-columns-requires
 columns-requires c κs = search needs
 
--- src/lib.rt:76:5
 field-requires : tie.Need-field-requires
 field-requires c κs =
     omega (arith, c .before .before .before .columns .ensures .place, c .before .before .before .columns .kept .0, columns-most (c .before .before .before .before .before .before .args .j) (c .before .before .before .before .before .before .args .c), c .before .before .before .before .before .before .pre)
 
--- src/lib.rt:71:1
 same-length : tie.Need-same-length
 same-length c = search needs
 
--- src/lib.rt:71:1
 returns : tie.Need-returns
 returns c =
     wrote-more (omega (arith, columns-most (c .before .before .before .before .before .before .before .before .before .args .j) (c .before .before .before .before .before .before .before .before .before .args .c), c .before .before .before .before .before .before .before .before .before .pre)) (c .before .before .before .before .before .before .columns .ensures) (c .before .before .field .ensures)

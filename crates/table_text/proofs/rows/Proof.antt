@@ -12,11 +12,6 @@ use Rattle.table_text.proofs.Sizes.{count-most, lines-most}
 use Rattle.table_text.proofs.LineLaws.{lines-none, lines-more, line-word}
 use Rattle.table_text.proofs.rows.Statement.{statement}
 use Rattle.table_text.proofs.rows.Tie as tie
-use Rattle.table_text.proofs.rows.Reads as reads
-use Rattle.table_text.proofs.rows.Lts as lts
-use Rattle.nodes.proofs.value.Reads as value-reads
-use Rattle.nodes.proofs.word.Reads as word-reads
-use Rattle.table_text.proofs.row.Reads as row-reads
 
 abbrev Inv-loop : tie.InvT-loop
 Inv-loop out₀ start k count at₀ j₀ out at j =
@@ -25,24 +20,19 @@ Inv-loop out₀ start k count at₀ j₀ out at j =
 abbrev μ-loop : tie.MeasureT-loop
 μ-loop out₀ start k count at₀ j₀ out at j = count - j
 
--- src/lib.rt:113:5
 loop-holds : tie.Need-loop-holds Inv-loop μ-loop
 loop-holds c =
     (omega arith, refl, rw (lines-none (c .before .args .k .0)) (wrote-none (c .before .args .out .now) (c .before .args .start)))
 
--- src/lib.rt:114:27
 cast-row : tie.Need-cast-row Inv-loop μ-loop
 cast-row c = omega arith
 
--- src/lib.rt:114:37
 value-requires : tie.Need-value-requires Inv-loop μ-loop
 value-requires c κs = search needs
 
--- src/lib.rt:114:59
 word-requires : tie.Need-word-requires Inv-loop μ-loop
 word-requires c κs = search needs
 
--- src/lib.rt:114:9
 row-requires : tie.Need-row-requires Inv-loop μ-loop
 row-requires c κs =
     let s = c .before .before .before .before .before .before in
@@ -50,15 +40,12 @@ row-requires c κs =
     let e = s .pre .0 in
     omega (arith, l .inv .2 .place, l .inv .1, l .inv .0, s .pre .1, s .pre .2, s .pre .3, count-most (s .args .k .0) e, lines-most (s .args .k .0) (l .j) e (omega (arith, l .inv .0, s .pre .1)))
 
--- src/lib.rt:115:9
 add-j : tie.Need-add-j Inv-loop μ-loop
 add-j c = omega arith
 
--- src/lib.rt:113:5
 loop-less : tie.Need-loop-less Inv-loop μ-loop
 loop-less c = omega arith
 
--- src/lib.rt:113:5
 loop-again : tie.Need-loop-again Inv-loop μ-loop
 loop-again c =
     let s = c .before .before .before .before .before .before .before .before .before in
@@ -72,11 +59,9 @@ loop-again c =
           (wrote-more (omega (arith, most, l .inv .0, s .pre .1, s .pre .2, s .pre .3, count-most k e)) (l .inv .2) (c .before .before .row .ensures)),
     )
 
--- src/lib.rt:107:1
 same-length : tie.Need-same-length Inv-loop μ-loop
 same-length c = c .before .loop .inv .1
 
--- src/lib.rt:107:1
 returns : tie.Need-returns Inv-loop μ-loop
 returns c =
     let l = c .before .loop in

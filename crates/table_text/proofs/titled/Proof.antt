@@ -6,27 +6,19 @@ use Rattle.decimal.proofs.Writing.{wrote-more, wrote-room}
 use borrow.Author.Needs.{needs}
 use Rattle.table_text.proofs.titled.Statement.{statement}
 use Rattle.table_text.proofs.titled.Tie as tie
-use Rattle.table_text.proofs.titled.Reads as reads
-use Rattle.table_text.proofs.titled.Lts as lts
-use Rattle.decimal.proofs.put_text.Reads as put-text-reads
-use Rattle.table_text.proofs.field.Reads as field-reads
 
--- src/lib.rt:93:9
 put-text-requires : tie.Need-put-text-requires
 put-text-requires c κs = search needs
 
--- src/lib.rt:94:5
 field-requires : tie.Need-field-requires
 field-requires c κs =
     let a = c .before .before .before .before .before .before .before .args in
     let w = wrote-room (a .out .now) (a .at) (length (a .title .now)) (a .title .now) (omega (arith, c .before .before .before .before .before .before .before .pre)) (c .before .before .before .put-text .ensures .0) (c .before .before .before .put-text .ensures .1) in
     omega (arith, w .place, c .before .before .before .put-text .kept .0, c .before .before .before .before .before .before .before .pre)
 
--- src/lib.rt:89:1
 same-length : tie.Need-same-length
 same-length c = search needs
 
--- src/lib.rt:89:1
 returns : tie.Need-returns
 returns c =
     let a = c .before .before .before .before .before .before .before .before .before .before .args in
