@@ -1,15 +1,15 @@
 -- What the limits of k and the buffer mean for every list of refusals that begins with them.
 -- Assumes nothing.
-use mathlib.Core.Path.{_≡_, refl, sym, _∙_, ap}
-use mathlib.Core.Bool.{Bool, true, false, cond, not, _||_}
-use mathlib.Core.List.{List, [], _∷_}
+use mathlib.Core.Path.{_≡_, refl}
+use mathlib.Core.Bool.{Bool, true, false, cond, not, _||_, true≢false}
+use mathlib.Core.List.{List, _∷_}
 use Prim.Native.Nat.{ℕ, _≤_, _^_}
 use native.Mathlib.Omega.{arith}
 use lib.Dec.{ltb}
 use lib.ListN.{length}
-use borrow.Author.Tests.{ltb-false}
+use borrow.Author.Tests.{ltb-false, le-ltb}
 use Rattle.precision.specs.Precision.{inRange, imageLength, orderedWords}
-use Rattle.precision.proofs.Range.{in-range, ordered-words}
+use Rattle.precision.proofs.Range.{in-range, range-in, ordered-words}
 use Rattle.answers.specs.Refusal.{Refusal, Outcome, outcome}
 use Rattle.image.specs.Refusals.{precisionRefusal, bufferRefusal, brokenLimit}
 use Rattle.image.specs.Calls.{noImage}
@@ -51,6 +51,11 @@ kept-of false b h = absurd (omega (arith, h))
 kept-of true true h = absurd (omega (arith, h))
 kept-of true false h = (refl, refl)
 
+none-of : (r b : Bool) → (not r || b) ≡ false → numberOf (not r) b ≡ 0
+none-of true true e = absurd (true≢false e)
+none-of true false e = refl
+none-of false b e = absurd (true≢false e)
+
 module _ (k : ℕ) (s : List ℕ) where
   -- a broken limit turns every call back
   pub limit-refuses : (rs : List Refusal) (v : ℕ) → (brokenLimit k (length s) ≡ 0 → ⊥) → outcome (precisionRefusal k ∷ bufferRefusal k s ∷ rs) v ≡ limited (brokenLimit k (length s))
@@ -75,3 +80,11 @@ module _ (k : ℕ) (s : List ℕ) where
 
   pub limit-image : brokenLimit k (length s) ≡ 0 → noImage k s ≡ false
   limit-image h = let e = kept-of (inRange k) (ltb (length s) (imageLength k)) h in rw (e .0, e .1)
+
+  -- a precision and a long enough buffer keep both limits
+  pub limit-none : 1 ≤ k → k ≤ 12 → imageLength k ≤ length s → brokenLimit k (length s) ≡ 0
+  limit-none a b h = rw (range-in k a b, le-ltb (length s) (imageLength k) h)
+
+  -- where there is an image both limits are kept
+  pub image-limit : noImage k s ≡ false → brokenLimit k (length s) ≡ 0
+  image-limit = none-of (inRange k) (ltb (length s) (imageLength k))

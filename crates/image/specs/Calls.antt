@@ -10,11 +10,15 @@ use Rattle.answers.specs.Refusal.{Refusal, Outcome, outcome}
 use Rattle.image.specs.Image.{builtBuffer, wordOf, wordPart}
 use Rattle.image.specs.Refusals.{precisionRefusal, bufferRefusal, nodeRefusal, imageRefusal, wordRefusal}
 
--- the builder: refusals 1 and 2; it gives 0
-abbrev pub buildOutcome : ℕ → List ℕ → Outcome
-buildOutcome k s = outcome (precisionRefusal k ∷ bufferRefusal k s ∷ []) 0
+-- the refusals of the builder, in checking order: 1 and 2
+abbrev pub buildRefusals : ℕ → List ℕ → List Refusal
+buildRefusals k s = precisionRefusal k ∷ bufferRefusal k s ∷ []
 
--- a refusal of 1 or 2 applies
+-- the builder's answer; it gives 0
+abbrev pub buildOutcome : ℕ → List ℕ → Outcome
+buildOutcome k s = outcome (buildRefusals k s) 0
+
+-- refusal 1 or 2 applies
 abbrev pub noImage : ℕ → List ℕ → Bool
 noImage k s = precisionRefusal k .applies || bufferRefusal k s .applies
 
@@ -22,15 +26,21 @@ noImage k s = precisionRefusal k .applies || bufferRefusal k s .applies
 abbrev pub buildLeaves : ℕ → List ℕ → List ℕ
 buildLeaves k s = cond (noImage k s) s (builtBuffer k s)
 
--- the check: refusals 1, 2 and 6; it gives 0
-abbrev pub checkOutcome : ℕ → List ℕ → Outcome
-checkOutcome k s = outcome (precisionRefusal k ∷ bufferRefusal k s ∷ imageRefusal k s ∷ []) 0
+-- the refusals of the check, in checking order: 1, 2 and 6
+abbrev pub checkRefusals : ℕ → List ℕ → List Refusal
+checkRefusals k s = precisionRefusal k ∷ bufferRefusal k s ∷ imageRefusal k s ∷ []
 
--- reading node j: refusals 1, 2, 3 and 6; it gives the node as its word is decoded, in table units
+-- the check's answer; it gives 0
+abbrev pub checkOutcome : ℕ → List ℕ → Outcome
+checkOutcome k s = outcome (checkRefusals k s) 0
+
+-- the refusals of reading node j, in checking order: 1, 2, 3 and 6
+abbrev pub nodeRefusals : ℕ → List ℕ → ℕ → List Refusal
+nodeRefusals k s j = precisionRefusal k ∷ bufferRefusal k s ∷ nodeRefusal k j ∷ wordRefusal k s j ∷ []
+
+-- the answer of reading node j; it gives the node as its word is decoded, in table units
 abbrev pub nodeOutcome : ℕ → List ℕ → ℕ → Outcome
-nodeOutcome k s j =
-    outcome (precisionRefusal k ∷ bufferRefusal k s ∷ nodeRefusal k j ∷ wordRefusal k s j ∷ [])
-    (decode k j (wordOf k s j))
+nodeOutcome k s j = outcome (nodeRefusals k s j) (decode k j (wordOf k s j))
 
 -- the bytes of the word of node j: an empty part where 1 or 2 applies or j is above 2^k - 1
 abbrev pub shownPart : ℕ → List ℕ → ℕ → List ℕ

@@ -4,14 +4,10 @@ use mathlib.Core.Path.{refl}
 use borrow.Author.Tests.{le-leb, lt-leb}
 use Rattle.precision.proofs.Precision.in_range.Statement.{statement}
 use Rattle.precision.proofs.Precision.in_range.Tie as tie
-use Rattle.precision.proofs.Precision.in_range.Reads as reads
-use Rattle.precision.proofs.Precision.in_range.Lts as lts
 
--- src/lib.rt:34:13
 returns : tie.Need-returns
 returns c = (simp (lt-leb _ _ (c .if1 .taken)), (refl, refl))
 
--- src/lib.rt:27:5
 returns-2 : tie.Need-returns-2
 returns-2 c = (simp (le-leb _ _ (c .if1 .left)), (refl, refl))
 

@@ -1,0 +1,100 @@
+-- `decimal::put_text` meets its contract. The invariant: the first i bytes of t stand at `at`. The measure is what is left of t.
+-- Assumes nothing.
+use mathlib.Core.Path.{_≡_, refl, ap, _∙_}
+use Prim.Native.Nat.{ℕ, _+_, _-_, _≤_}
+use native.Mathlib.Omega.{arith}
+use native.Mathlib.Numerals.{add-one}
+use borrow.Author.Tests.{le-leb, lt-leb}
+use lib.ListN.{length}
+use lib.Seq.{paste, paste-zero, paste-suc, length-paste}
+use Rattle.decimal.proofs.Writing.{paste-written}
+use Rattle.decimal.proofs.put_text.Statement.{statement}
+use Rattle.decimal.proofs.put_text.Tie as tie
+
+abbrev Inv-loop : tie.InvT-loop
+Inv-loop out₀ at t i₀ out i = (i ≤ length t) × (at + length t ≤ length out₀) × (out ≡ paste out₀ at t i)
+
+abbrev μ-loop : tie.MeasureT-loop
+μ-loop out₀ at t i₀ out i = length t - i
+
+returns : tie.Need-returns Inv-loop μ-loop
+returns c =
+    let a = c .before .args in
+    rw (lt-leb (a .at + length (a .t .now)) (length (a .out .now)) (omega arith)) (refl, refl)
+
+sub-if2 : tie.Need-sub-if2 Inv-loop μ-loop
+sub-if2 c = omega arith
+
+returns-2 : tie.Need-returns-2 Inv-loop μ-loop
+returns-2 c =
+    let a = c .before .before .args in
+    rw (lt-leb (a .at + length (a .t .now)) (length (a .out .now)) (omega arith)) (refl, refl)
+
+loop-holds : tie.Need-loop-holds Inv-loop μ-loop
+loop-holds c =
+    let a = c .before .before .args in
+    (omega arith, omega arith, paste-zero (a .out .now) (a .at) (a .t .now))
+
+shared-slice-read-out : tie.Need-shared-slice-read-out Inv-loop μ-loop
+shared-slice-read-out c = omega arith
+
+add-out : tie.Need-add-out Inv-loop μ-loop
+add-out c = omega arith
+
+slice-write-out : tie.Need-slice-write-out Inv-loop μ-loop
+slice-write-out c =
+    let a = c .before .before .before .before .before .args in
+    let l = c .before .before .loop in
+    rw (l .inv .2, length-paste (a .out .now) (a .at) (a .t .now) (l .i) (omega arith) (l .inv .0)) (omega arith)
+
+add-i : tie.Need-add-i Inv-loop μ-loop
+add-i c = omega arith
+
+loop-less : tie.Need-loop-less Inv-loop μ-loop
+loop-less c = omega arith
+
+loop-again : tie.Need-loop-again Inv-loop μ-loop
+loop-again c =
+    let a = c .before .before .before .before .before .args in
+    let l = c .before .before .loop in (
+      omega arith,
+      omega arith,
+      rw (l .inv .2, add-one) (paste-suc (a .out .now) (a .at) (a .t .now) (l .i) 0 (omega arith) (c .before .loop-test .taken)),
+    )
+
+add-result : tie.Need-add-result Inv-loop μ-loop
+add-result c = omega arith
+
+same-length : tie.Need-same-length Inv-loop μ-loop
+same-length c =
+    let a = c .before .before .before .before .args in
+    let l = c .before .loop in
+    rw (l .inv .2) (length-paste (a .out .now) (a .at) (a .t .now) (l .i) (omega arith) (l .inv .0))
+
+returns-3 : tie.Need-returns-3 Inv-loop μ-loop
+returns-3 c =
+    let a = c .before .before .before .before .args in
+    let l = c .before .loop in
+    let e : l .i ≡ length (a .t .now) = omega arith in
+    rw (le-leb (a .at + length (a .t .now)) (length (a .out .now)) (omega arith))
+    (ap (λ (n : ℕ). a .at + n) e, l .inv .2 ∙ ap (paste (a .out .now) (a .at) (a .t .now)) e ∙ paste-written (a .out .now) (a .at) (a .t .now))
+
+pub put-text-spec : {M : Type 1} → statement M
+put-text-spec =
+    tie.close
+    (tie.spec
+    Inv-loop
+    μ-loop
+    returns
+    sub-if2
+    returns-2
+    loop-holds
+    shared-slice-read-out
+    add-out
+    slice-write-out
+    add-i
+    loop-less
+    loop-again
+    add-result
+    same-length
+    returns-3)

@@ -1,0 +1,93 @@
+// Decimal digits: numbers read from them and written as them, and pieces of text written at a place of a lent buffer.
+ghost use mathlib.Core.Path.{_≡_};
+ghost use Prim.Native.Nat.{_+_, _≤_};
+ghost use lib.ListN.{length};
+ghost use Rattle.decimal.specs.Text.{written, putInto, placeAfter};
+ghost use Rattle.decimal.specs.Decimal.{decimal, longest};
+ghost use Rattle.decimal.specs.Reading.{reading};
+
+// What reading a number finds: digits that stand for a number below 2^64, or anything else.
+pub enum Reading {
+    Number(u64),
+    Other,
+}
+
+// The most digits that a number of 64 bits has.
+pub const LONGEST: usize = 20;
+
+// Reads all of s as digits. Other where s is empty, has another byte, or stands for 2^64 or more.
+pub fn read(s: &[u8]) -> Reading
+    ensures { λ r. ⌜ r ≡ reading (now (s .entry)) ⌝ }
+{
+    if s.len() == 0 {
+        return Reading::Other;
+    }
+    let mut value: u64 = 0;
+    let mut at: usize = 0;
+    while at < s.len() {
+        let b = s[at];
+        if b < 48 {
+            return Reading::Other;
+        }
+        if 57 < b {
+            return Reading::Other;
+        }
+        let digit = (b - 48) as u64;
+        if (18446744073709551615 - digit) / 10 < value {
+            return Reading::Other;
+        }
+        value = value * 10 + digit;
+        at += 1;
+    }
+    Reading::Number(value)
+}
+
+// Writes the digits of n at `at`, where they have room, and gives the place after them.
+fn put_digits(out: &mut [u8], at: usize, n: u64) -> usize
+    requires { ⌜ at + length (decimal n) ≤ length (now out) ⌝ }
+    ensures { λ r. ⌜ r ≡ at + length (decimal n) ⌝ }
+    ensures { λ r. ⌜ now (out .exit) ≡ written (now (out .entry)) at (decimal n) ⌝ }
+{
+    if n < 10 {
+        out[at] = (48 + n) as u8;
+        return at + 1;
+    }
+    let last = put_digits(out, at, n / 10);
+    out[last] = (48 + n % 10) as u8;
+    last + 1
+}
+
+// Writes the digits of n at `at` and gives the place after them. With fewer than LONGEST bytes from `at` to the end it writes
+// nothing and gives `at`.
+pub fn put(out: &mut [u8], at: usize, n: u64) -> usize
+    ensures { λ r. ⌜ r ≡ placeAfter (now (out .entry)) at longest (decimal n) ⌝ }
+    ensures { λ r. ⌜ now (out .exit) ≡ putInto (now (out .entry)) at longest (decimal n) ⌝ }
+    ensures { λ r. do ⌜ (← ⟦LONGEST⟧ .entry) ≡ longest ⌝ }
+{
+    if out.len() < LONGEST {
+        return at;
+    }
+    if out.len() - LONGEST < at {
+        return at;
+    }
+    put_digits(out, at, n)
+}
+
+// Writes the text t at `at` and gives the place after it. Where it does not fit it writes nothing and gives `at`.
+pub fn put_text(out: &mut [u8], at: usize, t: &[u8]) -> usize
+    ensures { λ r. ⌜ r ≡ placeAfter (now (out .entry)) at (length (now (t .entry))) (now (t .entry)) ⌝ }
+    ensures { λ r. ⌜ now (out .exit) ≡ putInto (now (out .entry)) at (length (now (t .entry))) (now (t .entry)) ⌝ }
+{
+    if out.len() < t.len() {
+        return at;
+    }
+    if out.len() - t.len() < at {
+        return at;
+    }
+    let mut i: usize = 0;
+    while i < t.len() {
+        out[at + i] = t[i];
+        i += 1;
+    }
+    at + i
+}

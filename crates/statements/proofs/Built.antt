@@ -1,0 +1,88 @@
+-- What the builder leaves, and what is read of it.
+-- Assumes nothing.
+use mathlib.Core.Path.{_≡_, refl, sym, _∙_, ap}
+use mathlib.Core.Bool.{Bool, true, false, cond, _||_}
+use mathlib.Core.List.{List, [], _∷_, append-nil}
+use Prim.Native.Nat.{ℕ, _+_, _*_, _%_, _^_, _≤_, _<_}
+use native.Mathlib.Nat.{le-of-eq}
+use native.Mathlib.Omega.{arith}
+use lib.ListN.{length, drop}
+use lib.Seq.{drop-at}
+use lib.Dec.{ltb, lit<}
+use borrow.Author.Tests.{le-ltb, ltb-true, ltb-false}
+use Rattle.precision.specs.Precision.{imageLength, wordCount, wordWidth}
+use Rattle.nodes.specs.Nodes.{node, decode, storedWord}
+use Rattle.packing.specs.Packing.{bitAt, bitOfWord}
+use Rattle.packing.proofs.Bits.{bit-of-packed}
+use Rattle.answers.specs.Refusal.{outcome, served}
+use Rattle.image.specs.Image.{image, builtBuffer, afterImage, wordOf, isWrong, firstWrong}
+use Rattle.image.specs.Refusals.{precisionRefusal, bufferRefusal, nodeRefusal, imageRefusal, wordRefusal}
+use Rattle.image.specs.Calls.{buildOutcome, buildLeaves, noImage, checkOutcome, nodeOutcome}
+use Rattle.image.proofs.Laws.{image-length, image-word, built-length, right-not-wrong, stored-lt}
+use Rattle.image.proofs.Limits.{limit-none, limit-image, limit-kept, image-limit}
+use Rattle.image.proofs.Lowest.{lowest-none}
+use Rattle.image.proofs.Judging.{node-right, node-end}
+use Rattle.statements.specs.Terms.{IsPrecision, IsLongEnough, IsRightAt}
+use Rattle.statements.proofs.Nodes.{served-decodes}
+use Rattle.statements.proofs.Numbers.{kept-answer}
+
+-- what the builder leaves, by whether there is an image to write
+refused-of : (a b : Bool) → (outcome (record { applies = a; number = 1; place = 0 } ∷ record { applies = b; number = 2; place = 0 } ∷ []) 0 .number ≡ 0 → ⊥) → (a || b) ≡ true
+refused-of true b f = refl
+refused-of false true f = refl
+refused-of false false f = absurd (f refl)
+
+module _ (k : ℕ) (s : List ℕ) where
+  pub left-as-found : (buildOutcome k s .number ≡ 0 → ⊥) → buildLeaves k s ≡ s
+  left-as-found f = rw (refused-of (precisionRefusal k .applies) (bufferRefusal k s .applies) f)
+
+  by-image : (P : List ℕ → Type 0) → P s → (1 ≤ k → IsLongEnough k s → P (builtBuffer k s)) → P (buildLeaves k s)
+  by-image P found built = go (noImage k s) refl
+    where
+      go : (b : Bool) → noImage k s ≡ b → P (cond b s (builtBuffer k s))
+      go true e = found
+      go false e = let kept = limit-kept k s (image-limit k s e) in built (kept .low) (kept .long)
+
+  pub built-rest : drop (imageLength k) (buildLeaves k s) ≡ drop (imageLength k) s
+  built-rest =
+      by-image (λ t. drop (imageLength k) t ≡ drop (imageLength k) s) refl
+      (λ one l. drop-at (image k) (afterImage k s) (imageLength k) (image-length k one))
+
+  pub built-as-long : length (buildLeaves k s) ≡ length s
+  built-as-long = by-image (λ t. length t ≡ length s) refl (λ one l. built-length k one s l)
+
+  -- a precision and a long enough buffer are built
+  pub built : IsPrecision k → IsLongEnough k s → buildLeaves k s ≡ builtBuffer k s
+  built p l = rw (limit-image k s (limit-none k s (p .0) (p .1) l))
+
+module _ (k : ℕ) (s : List ℕ) (p : IsPrecision k) (l : IsLongEnough k s) where
+  pub built-words : (j : ℕ) → j < 2 ^ k → IsRightAt k (buildLeaves k s) j
+  built-words j h = rw (built k s p l) (image-word k j (afterImage k s) h)
+
+  still-long : IsLongEnough k (buildLeaves k s)
+  still-long = rw (built-as-long k s) l
+
+  pub read-back : (j : ℕ) → j ≤ 2 ^ k → nodeOutcome k (buildLeaves k s) j ≡ served (node k j)
+  read-back j h =
+      kept-answer k (buildLeaves k s) (nodeRefusal k j ∷ wordRefusal k (buildLeaves k s) j ∷ []) (decode k j (wordOf k (buildLeaves k s) j)) p still-long
+      ∙ by (ltb j (2 ^ k)) refl
+      ∙ ap served (served-decodes k (buildLeaves k s) j h (built-words j))
+    where
+      by : (b : Bool) → ltb j (2 ^ k) ≡ b → outcome (nodeRefusal k j ∷ wordRefusal k (buildLeaves k s) j ∷ []) (decode k j (wordOf k (buildLeaves k s) j)) ≡ served (decode k j (wordOf k (buildLeaves k s) j))
+      by true e =
+          let m = ltb-true j (2 ^ k) e in
+          node-right k (buildLeaves k s) j (decode k j (wordOf k (buildLeaves k s) j)) m (right-not-wrong k (buildLeaves k s) j (built-words j m))
+      by false e = node-end k (buildLeaves k s) j (decode k j (wordOf k (buildLeaves k s) j)) (omega (arith, ltb-false j (2 ^ k) e))
+
+  pub built-checks : checkOutcome k (buildLeaves k s) ≡ served 0
+  built-checks =
+      kept-answer k (buildLeaves k s) (imageRefusal k (buildLeaves k s) ∷ []) 0 p still-long
+      ∙ rw
+      (le-ltb (firstWrong k (buildLeaves k s)) (2 ^ k)
+      (le-of-eq (sym (lowest-none (isWrong k (buildLeaves k s)) (2 ^ k) (λ j h. right-not-wrong k (buildLeaves k s) j (built-words j h))))))
+
+-- bit b of word j of the image
+pub image-bits : (k j b : ℕ) → j < 2 ^ k → b < 2 * k + 2 → bitAt (image k) (j * (2 * k + 2) + b) ≡ bitOfWord (2 * k + 2) (node k j % 2 ^ (2 * k + 2)) b
+image-bits k j b h l =
+    ap (λ (t : List ℕ). bitAt t (j * (2 * k + 2) + b)) (sym (append-nil (image k)))
+    ∙ bit-of-packed (wordWidth k) (storedWord k) (wordCount k) j b [] (λ i. lit< tt) (λ i m. stored-lt k i) h l

@@ -1,0 +1,136 @@
+-- Demand 1. "Whatever breaks a limit is turned back by the listed number and place, in the listed order (where bytes are shown, by an
+-- empty part), and every lent byte is left as found. Whatever breaks none is served."
+--
+-- For each call: its number is r exactly when refusal r applies and no earlier one does, and 0 exactly when none does; a call that is
+-- turned back has the value 0, and place 0 but under 6; a served one has place 0. Nothing is assumed of k, of the buffer s or of j.
+use mathlib.Core.Path.{_≡_, _∙_}
+use mathlib.Core.Logic.{_↔_}
+use mathlib.Core.List.{List, [], _∷_}
+use Prim.Native.Nat.{ℕ, _+_, _-_, _*_, _/_, _^_, _≤_, _<_}
+use lib.ListN.{length, drop, getD}
+use Rattle.precision.specs.Precision.{imageLength}
+use Rattle.nodes.specs.Nodes.{node, decode}
+use Rattle.answers.proofs.Order.{avoided, first, later, placed, value-of-0, refused-value, served-value}
+use Rattle.image.specs.Image.{wordOf}
+use Rattle.image.specs.Refusals.{nodeRefusal, imageRefusal, wordRefusal}
+use Rattle.image.specs.Calls.{buildRefusals, buildOutcome, buildLeaves, checkRefusals, checkOutcome, nodeRefusals, nodeOutcome, shownPart}
+use Rattle.statements.specs.Terms.{IsPrecision, IsLongEnough, IsRightAt}
+use Rattle.statements.proofs.Iff.{joined, both, row3, row4, same, some-wrong, none-wrong}
+use Rattle.statements.proofs.Built.{left-as-found, built-rest, built-as-long}
+use Rattle.statements.proofs.Nodes.{served-decodes}
+use Rattle.statements.proofs.Numbers.{alone, refuses-1, refuses-2, later-number, first-wrong, node-number-3, node-number-6, node-number-0, node-place}
+use Rattle.statements.proofs.Parts.{shown-empty, shown-length, shown-bytes}
+
+-- The builder.
+module _ (k : ℕ) (s : List ℕ) where
+  -- 1: the precision is below 1 or above 12
+  pub build-refuses-1 : (buildOutcome k s .number ≡ 1) ↔ (IsPrecision k → ⊥)
+  build-refuses-1 = refuses-1 k s [] 0 tt
+
+  -- 2: the image buffer is shorter than the image length for k
+  pub build-refuses-2 : (buildOutcome k s .number ≡ 2) ↔ (IsPrecision k × (length s < imageLength k))
+  build-refuses-2 = refuses-2 k s [] 0 tt
+
+  -- whatever breaks none is served
+  pub build-serves : (buildOutcome k s .number ≡ 0) ↔ (IsPrecision k × IsLongEnough k s)
+  build-serves = joined (later-number k s [] 0 0 tt tt) (both same alone)
+
+  -- place and value are 0
+  pub build-place : buildOutcome k s .place ≡ 0
+  build-place = placed 6 (buildRefusals k s) 0 tt (avoided 6 (buildRefusals k s) 0 tt)
+
+  pub build-value : buildOutcome k s .value ≡ 0
+  build-value = value-of-0 (buildRefusals k s)
+
+  -- every lent byte is left as found where the call is turned back, and in any case every byte past the image
+  pub build-refused-leaves : (buildOutcome k s .number ≡ 0 → ⊥) → buildLeaves k s ≡ s
+  build-refused-leaves = left-as-found k s
+
+  pub build-leaves-rest : drop (imageLength k) (buildLeaves k s) ≡ drop (imageLength k) s
+  build-leaves-rest = built-rest k s
+
+  pub build-leaves-length : length (buildLeaves k s) ≡ length s
+  build-leaves-length = built-as-long k s
+
+-- The check.
+module _ (k : ℕ) (s : List ℕ) where
+  pub check-refuses-1 : (checkOutcome k s .number ≡ 1) ↔ (IsPrecision k → ⊥)
+  check-refuses-1 = refuses-1 k s (imageRefusal k s ∷ []) 0 tt
+
+  pub check-refuses-2 : (checkOutcome k s .number ≡ 2) ↔ (IsPrecision k × (length s < imageLength k))
+  check-refuses-2 = refuses-2 k s (imageRefusal k s ∷ []) 0 tt
+
+  -- 6: a word is not the construction's
+  pub check-refuses-6 : (checkOutcome k s .number ≡ 6) ↔ (IsPrecision k × IsLongEnough k s × ((j : ℕ) × (j < 2 ^ k) × (IsRightAt k s j → ⊥)))
+  check-refuses-6 =
+      joined (later-number k s (imageRefusal k s ∷ []) 0 6 tt tt)
+      (joined (both same (both same (joined (first (imageRefusal k s) [] 0 tt) (some-wrong k s)))) row3)
+
+  pub check-serves : (checkOutcome k s .number ≡ 0) ↔ (IsPrecision k × IsLongEnough k s × ((j : ℕ) → j < 2 ^ k → IsRightAt k s j))
+  check-serves =
+      joined (later-number k s (imageRefusal k s ∷ []) 0 0 tt tt)
+      (joined (both same (both same (joined (later 0 (imageRefusal k s) [] 0 tt) (joined alone (none-wrong k s))))) row3)
+
+  -- the place is 0 but under 6, and there it is the lowest wrong node: its word is wrong and every word before it is right
+  pub check-place : (checkOutcome k s .number ≡ 6 → ⊥) → checkOutcome k s .place ≡ 0
+  check-place = placed 6 (checkRefusals k s) 0 tt
+
+  pub check-place-6 : checkOutcome k s .number ≡ 6 → (checkOutcome k s .place < 2 ^ k) × (IsRightAt k s (checkOutcome k s .place) → ⊥) × ((i : ℕ) → i < checkOutcome k s .place → IsRightAt k s i)
+  check-place-6 e = let t = check-refuses-6 .0 e in first-wrong k s (t .0) (t .1) (t .2 .0) (t .2 .1) (t .2 .2)
+
+  pub check-value : checkOutcome k s .value ≡ 0
+  check-value = value-of-0 (checkRefusals k s)
+
+-- Reading a node.
+module _ (k : ℕ) (s : List ℕ) (j : ℕ) where
+  pub node-refuses-1 : (nodeOutcome k s j .number ≡ 1) ↔ (IsPrecision k → ⊥)
+  node-refuses-1 = refuses-1 k s (nodeRefusal k j ∷ wordRefusal k s j ∷ []) (decode k j (wordOf k s j)) tt
+
+  pub node-refuses-2 : (nodeOutcome k s j .number ≡ 2) ↔ (IsPrecision k × (length s < imageLength k))
+  node-refuses-2 = refuses-2 k s (nodeRefusal k j ∷ wordRefusal k s j ∷ []) (decode k j (wordOf k s j)) tt
+
+  -- 3: the node number is above 2^k
+  pub node-refuses-3 : (nodeOutcome k s j .number ≡ 3) ↔ (IsPrecision k × IsLongEnough k s × (2 ^ k < j))
+  node-refuses-3 =
+      joined (later-number k s (nodeRefusal k j ∷ wordRefusal k s j ∷ []) (decode k j (wordOf k s j)) 3 tt tt)
+      (joined (both same (both same (node-number-3 k s j (decode k j (wordOf k s j))))) row3)
+
+  -- 6: the word of node j is not the construction's; node 2^k, which has none, never gives it
+  pub node-refuses-6 : (nodeOutcome k s j .number ≡ 6) ↔ (IsPrecision k × IsLongEnough k s × (j < 2 ^ k) × (IsRightAt k s j → ⊥))
+  node-refuses-6 =
+      joined (later-number k s (nodeRefusal k j ∷ wordRefusal k s j ∷ []) (decode k j (wordOf k s j)) 6 tt tt)
+      (joined (both same (both same (node-number-6 k s j (decode k j (wordOf k s j))))) row4)
+
+  pub node-serves : (nodeOutcome k s j .number ≡ 0) ↔ (IsPrecision k × IsLongEnough k s × (j ≤ 2 ^ k) × (j < 2 ^ k → IsRightAt k s j))
+  node-serves =
+      joined (later-number k s (nodeRefusal k j ∷ wordRefusal k s j ∷ []) (decode k j (wordOf k s j)) 0 tt tt)
+      (joined (both same (both same (node-number-0 k s j (decode k j (wordOf k s j))))) row4)
+
+  -- the place is 0 but under 6, and there it is node j
+  pub node-place-0 : (nodeOutcome k s j .number ≡ 6 → ⊥) → nodeOutcome k s j .place ≡ 0
+  node-place-0 = placed 6 (nodeRefusals k s j) (decode k j (wordOf k s j)) tt
+
+  pub node-place-6 : nodeOutcome k s j .number ≡ 6 → nodeOutcome k s j .place ≡ j
+  node-place-6 e = let t = node-refuses-6 .0 e in node-place k s j (decode k j (wordOf k s j)) (t .0) (t .1) (t .2) (t .3)
+
+  -- a refusal has the value 0, and a node that is served is c(j), whatever bytes the image holds
+  pub node-refused-value : (nodeOutcome k s j .number ≡ 0 → ⊥) → nodeOutcome k s j .value ≡ 0
+  node-refused-value = refused-value (nodeRefusals k s j) (decode k j (wordOf k s j))
+
+  pub node-served-value : nodeOutcome k s j .number ≡ 0 → nodeOutcome k s j .value ≡ node k j
+  node-served-value e =
+      let t = node-serves .0 e in
+      served-value (nodeRefusals k s j) (decode k j (wordOf k s j)) tt e .1 ∙ served-decodes k s j (t .2) (t .3)
+
+-- Showing the bytes of one word. That call has no numbers.
+module _ (k : ℕ) (s : List ℕ) (j : ℕ) where
+  -- an empty part exactly when refusal 1 or 2 applies or j is above 2^k - 1
+  pub part-empty : (shownPart k s j ≡ []) ↔ ((IsPrecision k × IsLongEnough k s × (j < 2 ^ k)) → ⊥)
+  part-empty = shown-empty k s j
+
+  -- and otherwise it runs from byte floor(j × w / 8) to byte floor((j × w + w - 1) / 8), both included, of the caller's image
+  pub part-length : IsPrecision k → IsLongEnough k s → j < 2 ^ k → length (shownPart k s j) ≡ (j * (2 * k + 2) + (2 * k + 2) - 1) / 8 + 1 - j * (2 * k + 2) / 8
+  part-length = shown-length k s j
+
+  pub part-bytes : IsPrecision k → IsLongEnough k s → j < 2 ^ k → (i : ℕ) → i < length (shownPart k s j) → getD (shownPart k s j) i 0 ≡ getD s (j * (2 * k + 2) / 8 + i) 0
+  part-bytes = shown-bytes k s j

@@ -1,0 +1,108 @@
+-- Demand 2. "Image and reciprocal are those of Algorithms 1 and 2 of Das Sarma and Matula, with two table and three input guard bits.
+-- Nodes read back from a built image are those put in; an image passes the check exactly when all its words are right."
+--
+-- Here for the nodes and the image. Each theorem assumes no more than ranges of its numbers: that k is a precision, that a buffer is
+-- long enough, that its elements are bytes.
+use mathlib.Core.Path.{_≡_}
+use mathlib.Core.Logic.{_↔_}
+use mathlib.Core.List.{List}
+use Prim.Native.Nat.{ℕ, _+_, _-_, _*_, _/_, _%_, _^_, _≤_, _<_}
+use lib.ListN.{length, take, getD}
+use Rattle.precision.specs.Precision.{imageLength}
+use Rattle.nodes.specs.Nodes.{node}
+use Rattle.nodes.proofs.Nodes.{node-first, node-last, node-above, node-below, node-falls}
+use Rattle.quotient.proofs.Laws.{reaches, least}
+use Rattle.packing.specs.Packing.{Bytes, bitAt, bitOfWord}
+use Rattle.answers.specs.Refusal.{served}
+use Rattle.image.specs.Image.{image, wordOf}
+use Rattle.image.specs.Calls.{buildLeaves, checkOutcome, nodeOutcome}
+use Rattle.image.proofs.Laws.{whole-bytes, image-length, right-front, front-right}
+use Rattle.statements.specs.Terms.{IsPrecision, IsLongEnough, IsRightAt}
+use Rattle.statements.proofs.Iff.{joined}
+use Rattle.statements.proofs.Demand1.{check-serves}
+use Rattle.statements.proofs.Built
+use Rattle.statements.proofs.Depends
+use Rattle.statements.proofs.Nodes
+
+-- The nodes (document 002, Algorithm 1), for every k.
+module _ (k : ℕ) where
+  -- c(j) is the least whole number with c × i ≥ 2^(3k+3), where i = 2^k + j
+  pub node-reaches : (j : ℕ) → 2 ^ (3 * k + 3) ≤ node k j * (2 ^ k + j)
+  node-reaches j = reaches (2 ^ (3 * k + 3)) (2 ^ k + j) (Nodes.index-positive k j)
+
+  pub node-least : (j c : ℕ) → 2 ^ (3 * k + 3) ≤ c * (2 ^ k + j) → node k j ≤ c
+  node-least j = least (2 ^ (3 * k + 3)) (2 ^ k + j) (Nodes.index-positive k j)
+
+  -- c(0) = 2^(2k+3) and c(2^k) = 2^(2k+2)
+  pub first-node : node k 0 ≡ 2 ^ (2 * k + 3)
+  first-node = node-first k
+
+  pub last-node : node k (2 ^ k) ≡ 2 ^ (2 * k + 2)
+  last-node = node-last k
+
+  -- every other value lies between them
+  pub node-between : (j : ℕ) → 0 < j → j < 2 ^ k → (2 ^ (2 * k + 2) < node k j) × (node k j < 2 ^ (2 * k + 3))
+  node-between j h l = (node-above k j l, node-below k j h)
+
+  -- so but for node 0 every value has 2k + 3 bits with a leading one
+  pub node-leading-one : (j : ℕ) → 0 < j → j ≤ 2 ^ k → node k j / 2 ^ (2 * k + 2) ≡ 1
+  node-leading-one = Nodes.leading-one k
+
+  -- c falls from node to node
+  pub node-step : (j : ℕ) → j < 2 ^ k → node k (j + 1) < node k j
+  node-step = node-falls k
+
+-- The image.
+module _ (k : ℕ) (p : IsPrecision k) where
+  -- it has 2^k × (2k + 2) / 8 bytes, and these are whole
+  pub image-bytes : length (image k) ≡ 2 ^ k * (2 * k + 2) / 8
+  image-bytes = image-length k (p .0)
+
+  pub image-whole : 8 * (2 ^ k * (2 * k + 2) / 8) ≡ 2 ^ k * (2 * k + 2)
+  image-whole = whole-bytes k (p .0)
+
+  -- the words of a built image are c(j) modulo 2^(2k+2), whatever the buffer held before
+  pub built-word : (s : List ℕ) → IsLongEnough k s → (j : ℕ) → j < 2 ^ k → wordOf k (buildLeaves k s) j ≡ node k j % 2 ^ (2 * k + 2)
+  built-word s l j h = Built.built-words k s p l j h
+
+  -- most significant bit first, with no padding: bit b of word j is bit j × w + b of the image
+  pub image-bit : (j b : ℕ) → j < 2 ^ k → b < 2 * k + 2 → bitAt (image k) (j * (2 * k + 2) + b) ≡ bitOfWord (2 * k + 2) (node k j % 2 ^ (2 * k + 2)) b
+  image-bit j b h l = Built.image-bits k j b h l
+
+  -- every node read back from a buffer that was built is served and is c(j), whatever the buffer held before
+  pub node-read-back : (s : List ℕ) → IsLongEnough k s → (j : ℕ) → j ≤ 2 ^ k → nodeOutcome k (buildLeaves k s) j ≡ served (node k j)
+  node-read-back s l j h = Built.read-back k s p l j h
+
+  -- and the buffer passes the check
+  pub built-passes : (s : List ℕ) → IsLongEnough k s → checkOutcome k (buildLeaves k s) ≡ served 0
+  built-passes s l = Built.built-checks k s p l
+
+  -- an image passes the check exactly when each word is the construction's
+  pub check-passes-words : (s : List ℕ) → IsLongEnough k s → (checkOutcome k s .number ≡ 0) ↔ ((j : ℕ) → j < 2 ^ k → wordOf k s j ≡ node k j % 2 ^ (2 * k + 2))
+  check-passes-words s l = joined (check-serves k s) (λ t. t .2, λ t. (p, l, t))
+
+  -- and exactly when its first bytes are the image
+  pub check-passes-bytes : (s : List ℕ) → Bytes s → IsLongEnough k s → (checkOutcome k s .number ≡ 0) ↔ (take (imageLength k) s ≡ image k)
+  check-passes-bytes s b l = joined (check-passes-words s l) (right-front k (p .0) s b l, front-right k (p .0) s)
+
+-- What an answer depends on.
+module _ (k : ℕ) (s t : List ℕ) (l : IsLongEnough k s) (m : IsLongEnough k t) where
+  -- a node's answer depends on its own word alone, and at node 2^k on none
+  pub node-by-its-word : (j : ℕ) → (j < 2 ^ k → wordOf k s j ≡ wordOf k t j) → nodeOutcome k s j ≡ nodeOutcome k t j
+  node-by-its-word = Depends.node-same k s t l m
+
+  -- the check's depends on the words of the image alone
+  pub check-by-words : ((j : ℕ) → j < 2 ^ k → wordOf k s j ≡ wordOf k t j) → checkOutcome k s ≡ checkOutcome k t
+  check-by-words = Depends.check-same k s t l m
+
+  -- the word of node j stands in its own bytes, whatever follows the image and however long the buffers are
+  pub word-by-its-bytes : (j : ℕ) → ((i : ℕ) → j * (2 * k + 2) / 8 ≤ i → i ≤ (j * (2 * k + 2) + (2 * k + 2) - 1) / 8 → getD s i 0 ≡ getD t i 0) → wordOf k s j ≡ wordOf k t j
+  word-by-its-bytes j = Depends.word-same k s t j
+
+-- A zero word means 2^(2k+3) at node 0; at any other node it is wrong.
+module _ (k : ℕ) (s : List ℕ) where
+  pub zero-word-first : wordOf k s 0 ≡ 0 → IsRightAt k s 0
+  zero-word-first = Nodes.zero-right k s
+
+  pub zero-word-wrong : (j : ℕ) → 0 < j → j < 2 ^ k → wordOf k s j ≡ 0 → IsRightAt k s j → ⊥
+  zero-word-wrong = Nodes.zero-wrong k s

@@ -1,0 +1,125 @@
+-- Tests as the facts that they stand for, and joined equivalences.
+-- Assumes nothing.
+use mathlib.Core.Path.{_≡_, refl}
+use mathlib.Core.Logic.{_↔_}
+use mathlib.Core.Bool.{Bool, true, false, not, _&&_}
+use mathlib.Core.List.{List}
+use Prim.Native.Nat.{ℕ, _^_, _≤_, _<_}
+use native.Mathlib.Omega.{arith}
+use lib.Dec.{T, ltb, ltb→lt, lt→ltb, nltb→le, not-T, T-not}
+use lib.Arith.{le→nltb}
+use borrow.Author.Tests.{lt-ltb}
+use Rattle.truth.proofs.Bools.{clash}
+use Rattle.precision.specs.Precision.{inRange, wordCount}
+use Rattle.precision.proofs.Range.{in-range, range-in}
+use Rattle.image.specs.Image.{isWrong, firstWrong}
+use Rattle.image.proofs.Laws.{not-wrong, right-not-wrong}
+use Rattle.image.proofs.Lowest.{lowest-passes, lowest-before, lowest-none}
+use Rattle.statements.specs.Terms.{IsPrecision, IsRightAt}
+
+pub joined : {A B C : Type 0} → A ↔ B → B ↔ C → A ↔ C
+joined f g = (λ a. g .0 (f .0 a), λ c. f .1 (g .1 c))
+
+pub same : {A : Type 0} → A ↔ A
+same = (λ a. a, λ a. a)
+
+pub both : {A B C D : Type 0} → A ↔ C → B ↔ D → (A × B) ↔ (C × D)
+both f g = (λ t. (f .0 (t .0), g .0 (t .1)), λ t. (f .1 (t .0), g .1 (t .1)))
+
+-- nested pairs as one row
+pub row3 : {A B C : Type 0} → (A × (B × C)) ↔ (A × B × C)
+row3 = (λ t. (t .0, t .1 .0, t .1 .1), λ t. (t .0, (t .1, t .2)))
+
+pub row4 : {A B C D : Type 0} → (A × (B × (C × D))) ↔ (A × B × C × D)
+row4 = (λ t. (t .0, t .1 .0, t .1 .1 .0, t .1 .1 .1), λ t. (t .0, (t .1, (t .2, t .3))))
+
+-- a test that passed, as an equation, and the other way round
+pub passed : (b : Bool) → T b → b ≡ true
+passed true t = refl
+passed false t = absurd t
+
+pub failed : (b : Bool) → T (not b) → b ≡ false
+failed true t = absurd t
+failed false t = refl
+
+pub passes : (b : Bool) → b ≡ true → T b
+passes b e = rw e tt
+
+pub fails : (b : Bool) → b ≡ false → T (not b)
+fails b e = rw e tt
+
+-- k is a precision
+pub is-precision : (k : ℕ) → T (not (not (inRange k))) ↔ IsPrecision k
+is-precision k = (to (inRange k) refl, λ p. rw (range-in k (p .0) (p .1)) tt)
+  where
+    to : (b : Bool) → inRange k ≡ b → T (not (not b)) → IsPrecision k
+    to true e t = in-range k e
+    to false e t = absurd t
+
+pub no-precision : (k : ℕ) → T (not (inRange k)) ↔ (IsPrecision k → ⊥)
+no-precision k = (λ t p. T-not (inRange k) t (passes (inRange k) (range-in k (p .0) (p .1))), λ f. not-T (inRange k) (λ t. f (in-range k (passed (inRange k) t))))
+
+-- orders
+pub is-below : (a b : ℕ) → T (ltb a b) ↔ (a < b)
+is-below a b = (ltb→lt a b, lt→ltb a b)
+
+pub not-below : (a b : ℕ) → T (not (ltb a b)) ↔ (b ≤ a)
+not-below a b = (nltb→le a b, le→nltb a b)
+
+-- the word of node j is read and is wrong
+pub wrong-word : (k : ℕ) (s : List ℕ) (j : ℕ) → T (ltb j (2 ^ k) && isWrong k s j) ↔ ((j < 2 ^ k) × (IsRightAt k s j → ⊥))
+wrong-word k s j = (to (ltb j (2 ^ k)) (isWrong k s j) refl refl, from)
+  where
+    to : (a b : Bool) → ltb j (2 ^ k) ≡ a → isWrong k s j ≡ b → T (a && b) → (j < 2 ^ k) × (IsRightAt k s j → ⊥)
+    to true true e d t = (ltb→lt j (2 ^ k) (passes (ltb j (2 ^ k)) e), λ r. clash d (right-not-wrong k s j r))
+    to true false e d t = absurd t
+    to false b e d t = absurd t
+
+    by : (b : Bool) → isWrong k s j ≡ b → (IsRightAt k s j → ⊥) → T b
+    by true e f = tt
+    by false e f = f (not-wrong k s j e)
+
+    from : (j < 2 ^ k) × (IsRightAt k s j → ⊥) → T (ltb j (2 ^ k) && isWrong k s j)
+    from t = rw (lt-ltb j (2 ^ k) (t .0)) (by (isWrong k s j) refl (t .1))
+
+pub no-wrong-word : (k : ℕ) (s : List ℕ) (j : ℕ) → T (not (ltb j (2 ^ k) && isWrong k s j)) ↔ (j < 2 ^ k → IsRightAt k s j)
+no-wrong-word k s j = (to, from)
+  where
+    by : (b : Bool) → isWrong k s j ≡ b → T (not b) → IsRightAt k s j
+    by true e t = absurd t
+    by false e t = not-wrong k s j e
+
+    to : T (not (ltb j (2 ^ k) && isWrong k s j)) → j < 2 ^ k → IsRightAt k s j
+    to t h = by (isWrong k s j) refl (rw (lt-ltb j (2 ^ k) h) at t)
+
+    from : (j < 2 ^ k → IsRightAt k s j) → T (not (ltb j (2 ^ k) && isWrong k s j))
+    from f = not-T (ltb j (2 ^ k) && isWrong k s j) (λ t. let w = wrong-word k s j .0 t in w .1 (f (w .0)))
+
+-- some word of the image is wrong, and none is
+pub some-wrong : (k : ℕ) (s : List ℕ) → T (ltb (firstWrong k s) (wordCount k)) ↔ ((j : ℕ) × (j < 2 ^ k) × (IsRightAt k s j → ⊥))
+some-wrong k s = (to, from)
+  where
+    to : T (ltb (firstWrong k s) (wordCount k)) → (j : ℕ) × (j < 2 ^ k) × (IsRightAt k s j → ⊥)
+    to t =
+        let h = ltb→lt (firstWrong k s) (wordCount k) t in
+        (firstWrong k s, h, λ r. clash (lowest-passes (isWrong k s) (wordCount k) h) (right-not-wrong k s (firstWrong k s) r))
+
+    from : (j : ℕ) × (j < 2 ^ k) × (IsRightAt k s j → ⊥) → T (ltb (firstWrong k s) (wordCount k))
+    from w =
+        not-not (ltb (firstWrong k s) (wordCount k))
+        (λ t. w .2 (not-wrong k s (w .0) (lowest-before (isWrong k s) (wordCount k) (w .0) (omega (arith, w .1, nltb→le (firstWrong k s) (wordCount k) t)))))
+      where
+        not-not : (b : Bool) → (T (not b) → ⊥) → T b
+        not-not true f = tt
+        not-not false f = absurd (f tt)
+
+pub none-wrong : (k : ℕ) (s : List ℕ) → T (not (ltb (firstWrong k s) (wordCount k))) ↔ ((j : ℕ) → j < 2 ^ k → IsRightAt k s j)
+none-wrong k s = (to, from)
+  where
+    to : T (not (ltb (firstWrong k s) (wordCount k))) → (j : ℕ) → j < 2 ^ k → IsRightAt k s j
+    to t j h = not-wrong k s j (lowest-before (isWrong k s) (wordCount k) j (omega (arith, h, nltb→le (firstWrong k s) (wordCount k) t)))
+
+    from : ((j : ℕ) → j < 2 ^ k → IsRightAt k s j) → T (not (ltb (firstWrong k s) (wordCount k)))
+    from f =
+        le→nltb (firstWrong k s) (wordCount k)
+        (omega (arith, lowest-none (isWrong k s) (wordCount k) (λ j h. right-not-wrong k s j (f j h))))

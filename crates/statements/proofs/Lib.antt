@@ -1,0 +1,11 @@
+pub mod Demand1
+pub mod Demand2
+pub mod Printed
+pub mod Examples
+pub mod Iff
+pub mod Numbers
+pub mod Nodes
+pub mod Built
+pub mod Depends
+pub mod Parts
+pub mod Orders

@@ -1,0 +1,49 @@
+-- Facts of the nodes that the page of demand 2 cites: their bits, and what words stand for.
+-- Assumes nothing.
+use mathlib.Core.Path.{_≡_, refl, sym, _∙_, ap}
+use mathlib.Core.Bool.{Bool, true, false}
+use mathlib.Core.List.{List}
+use Prim.Native.Nat.{ℕ, _+_, _*_, _/_, _^_, _≤_, _<_}
+use native.Mathlib.Nat.{le-of-lt, le-of-eq, div-eq-of-lt-le}
+use native.Mathlib.Omega.{arith}
+use lib.Pow.{pow-pos}
+use lib.Dec.{ltb}
+use borrow.Author.Tests.{ltb-true, ltb-false, eq-eqb}
+use Rattle.nodes.specs.Nodes.{node, decode, storedWord}
+use Rattle.nodes.proofs.Nodes.{decode-right, decode-last, node-above, node-below, node-last, lead-double, stored-word-first, stored-word-between}
+use Rattle.image.specs.Image.{wordOf}
+use Rattle.statements.specs.Terms.{IsRightAt}
+
+-- i = 2^k + j is never 0
+pub index-positive : (k j : ℕ) → 0 < 2 ^ k + j
+index-positive k j = omega (arith, pow-pos k)
+
+-- a value from 2^(2k+2) up to 2^(2k+3) has 2k + 3 bits with a leading one
+pub leading-one : (k j : ℕ) → 0 < j → j ≤ 2 ^ k → node k j / 2 ^ (2 * k + 2) ≡ 1
+leading-one k j h l =
+    div-eq-of-lt-le (2 ^ (2 * k + 2)) (omega (arith, low (ltb j (2 ^ k)) refl)) (omega (arith, node-below k j h, lead-double k))
+  where
+    low : (b : Bool) → ltb j (2 ^ k) ≡ b → 2 ^ (2 * k + 2) ≤ node k j
+    low true e = le-of-lt (node-above k j (ltb-true j (2 ^ k) e))
+    low false e =
+        let same : j ≡ 2 ^ k = omega (arith, ltb-false j (2 ^ k) e) in
+        le-of-eq (sym (ap (node k) same ∙ node-last k))
+
+-- the word of a served node decodes to the node
+pub served-decodes : (k : ℕ) (s : List ℕ) (j : ℕ) → j ≤ 2 ^ k → (j < 2 ^ k → IsRightAt k s j) → decode k j (wordOf k s j) ≡ node k j
+served-decodes k s j h f = by (ltb j (2 ^ k)) refl
+  where
+    by : (b : Bool) → ltb j (2 ^ k) ≡ b → decode k j (wordOf k s j) ≡ node k j
+    by true e =
+        let l = ltb-true j (2 ^ k) e in
+        decode-right k j (wordOf k s j) l (eq-eqb (wordOf k s j) (storedWord k j) (f l))
+    by false e =
+        let same : j ≡ 2 ^ k = omega (arith, ltb-false j (2 ^ k) e) in
+        ap (λ (i : ℕ). decode k i (wordOf k s j)) same ∙ decode-last k (wordOf k s j) ∙ ap (node k) (sym same)
+
+-- zero words
+pub zero-right : (k : ℕ) (s : List ℕ) → wordOf k s 0 ≡ 0 → IsRightAt k s 0
+zero-right k s e = e ∙ sym (stored-word-first k)
+
+pub zero-wrong : (k : ℕ) (s : List ℕ) (j : ℕ) → 0 < j → j < 2 ^ k → wordOf k s j ≡ 0 → IsRightAt k s j → ⊥
+zero-wrong k s j h l e r = omega (arith, node-above k j l, sym e ∙ r ∙ stored-word-between k j h l)

@@ -1,0 +1,55 @@
+-- The part of bytes that is shown.
+-- Assumes nothing.
+use mathlib.Core.Path.{_≡_, refl, _∙_, ap}
+use mathlib.Core.Logic.{_↔_}
+use mathlib.Core.Bool.{Bool, true, false, cond, not, _||_}
+use mathlib.Core.List.{List, []}
+use Prim.Native.Nat.{ℕ, _+_, _-_, _^_, _<_}
+use native.Mathlib.Omega.{arith}
+use lib.ListN.{length, drop, getD, length-take, length-drop}
+use lib.Seq.{getD-take, getD-drop}
+use lib.Dec.{ltb}
+use borrow.Author.Tests.{lt-ltb, ltb-true}
+use Rattle.precision.specs.Precision.{wordCount, wordWidth}
+use Rattle.packing.specs.Packing.{firstByte, lastByte, spanBytes}
+use Rattle.packing.proofs.Words.{span-within, span-ordered}
+use Rattle.image.specs.Image.{wordPart}
+use Rattle.image.specs.Calls.{noImage, shownPart}
+use Rattle.image.proofs.Laws.{byte-count}
+use Rattle.image.proofs.Limits.{limit-none, limit-image, limit-kept, image-limit}
+use Rattle.statements.specs.Terms.{IsPrecision, IsLongEnough}
+
+-- the part of bytes that is shown
+module _ (k : ℕ) (s : List ℕ) (j : ℕ) where
+  shown : IsPrecision k → IsLongEnough k s → j < 2 ^ k → shownPart k s j ≡ wordPart k s j
+  shown p l h = rw (limit-image k s (limit-none k s (p .0) (p .1) l), lt-ltb j (2 ^ k) h)
+
+  -- its bytes lie within the buffer
+  inside : IsPrecision k → IsLongEnough k s → j < 2 ^ k → lastByte (wordWidth k) j < length s
+  inside p l h = omega (arith, span-within (wordWidth k) (wordCount k) j (omega arith) h, byte-count k (p .0))
+
+  pub shown-length : IsPrecision k → IsLongEnough k s → j < 2 ^ k → length (shownPart k s j) ≡ lastByte (wordWidth k) j + 1 - firstByte (wordWidth k) j
+  shown-length p l h =
+      ap length (shown p l h)
+      ∙ length-take (spanBytes (wordWidth k) j) (drop (firstByte (wordWidth k) j) s)
+      ∙ omega (arith, length-drop (firstByte (wordWidth k) j) s, inside p l h)
+
+  pub shown-bytes : IsPrecision k → IsLongEnough k s → j < 2 ^ k → (i : ℕ) → i < length (shownPart k s j) → getD (shownPart k s j) i 0 ≡ getD s (firstByte (wordWidth k) j + i) 0
+  shown-bytes p l h i m =
+      ap (λ (t : List ℕ). getD t i 0) (shown p l h)
+      ∙ getD-take (spanBytes (wordWidth k) j) (drop (firstByte (wordWidth k) j) s) i 0 (omega (arith, shown-length p l h))
+      ∙ getD-drop (firstByte (wordWidth k) j) s i 0
+
+  pub shown-empty : (shownPart k s j ≡ []) ↔ ((IsPrecision k × IsLongEnough k s × (j < 2 ^ k)) → ⊥)
+  shown-empty = (to, from (noImage k s) (ltb j (2 ^ k)) refl refl)
+    where
+      to : shownPart k s j ≡ [] → (IsPrecision k × IsLongEnough k s × (j < 2 ^ k)) → ⊥
+      to e t =
+          omega (arith, ap length e, shown-length (t .0) (t .1) (t .2), span-ordered (wordWidth k) j (omega arith))
+
+      from : (a b : Bool) → noImage k s ≡ a → ltb j (2 ^ k) ≡ b → ((IsPrecision k × IsLongEnough k s × (j < 2 ^ k)) → ⊥) → cond (a || not b) [] (wordPart k s j) ≡ []
+      from true b e d f = refl
+      from false false e d f = refl
+      from false true e d f =
+          let kept = limit-kept k s (image-limit k s e) in
+          absurd (f ((kept .low, kept .high), kept .long, ltb-true j (2 ^ k) d))

@@ -1,0 +1,21 @@
+-- The terms in which the theorems speak of a precision k, a buffer s and a node j.
+-- Assumes nothing.
+use mathlib.Core.Path.{_≡_}
+use mathlib.Core.List.{List}
+use Prim.Native.Nat.{ℕ, _+_, _*_, _%_, _^_, _≤_}
+use lib.ListN.{length}
+use Rattle.precision.specs.Precision.{imageLength}
+use Rattle.nodes.specs.Nodes.{node}
+use Rattle.image.specs.Image.{wordOf}
+
+-- k is a precision
+abbrev pub IsPrecision : ℕ → Type 0
+IsPrecision k = (1 ≤ k) × (k ≤ 12)
+
+-- a buffer is long enough for the image
+abbrev pub IsLongEnough : ℕ → List ℕ → Type 0
+IsLongEnough k s = imageLength k ≤ length s
+
+-- the word that a buffer holds for node j is the construction's: c(j) modulo 2^(2k+2)
+abbrev pub IsRightAt : ℕ → List ℕ → ℕ → Type 0
+IsRightAt k s j = wordOf k s j ≡ node k j % 2 ^ (2 * k + 2)

@@ -1,0 +1,4 @@
+pub mod Sizes
+pub mod Orders
+pub mod LineLaws
+mod Examples

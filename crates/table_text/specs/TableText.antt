@@ -1,0 +1,91 @@
+-- The printed table (document 01, "The printed table").
+-- Assumes nothing.
+use Prim.Native.Nat.{ℕ, zero, suc, _+_, _-_, _*_, _^_}
+use mathlib.Core.Bool.{Bool, true, false, cond, _&&_}
+use mathlib.Core.List.{List, [], _∷_, _++_}
+use lib.Dec.{leb, eqb}
+use lib.ListN.{length, take, getD}
+use Rattle.decimal.specs.Text.{written}
+use Rattle.decimal.specs.Decimal.{decimal, isDigits, decimalValue}
+use Rattle.precision.specs.Precision.{inRange, imageLength}
+use Rattle.nodes.specs.Nodes.{node, storedWord}
+
+abbrev pub lineFeed : ℕ
+lineFeed = 10
+
+abbrev pub space : ℕ
+space = 32
+
+-- the input without its last byte
+abbrev pub body : List ℕ → List ℕ
+body s = take (length s - 1) s
+
+-- the input is 1 to 9 digits, then one line feed and no more
+abbrev pub isOrder : List ℕ → Bool
+isOrder s = leb 2 (length s) && leb (length s) 10 && eqb (getD s (length s - 1) 0) lineFeed && isDigits (body s)
+
+-- the precision that the input orders; other input counts as 0
+unfoldable pub precisionOf : List ℕ → ℕ
+precisionOf s = cond (isOrder s) (decimalValue (body s)) 0
+
+-- a number and the byte after it
+unfoldable pub field : ℕ → ℕ → List ℕ
+field n b = decimal n ++ (b ∷ [])
+
+-- "-" and a line feed
+abbrev pub hyphenText : List ℕ
+hyphenText = 45 ∷ lineFeed ∷ []
+
+-- the last column of node j: its stored word, and a hyphen at node 2^k, whose word is not stored
+abbrev pub wordField : ℕ → ℕ → List ℕ
+wordField k j = cond (eqb j (2 ^ k)) hyphenText (field (storedWord k j) lineFeed)
+
+-- the line of node j: its number, its value and its word
+unfoldable pub line : ℕ → ℕ → List ℕ
+line k j = field j space ++ field (node k j) space ++ wordField k j
+
+-- the lines of the first n nodes
+unfoldable pub lines : ℕ → ℕ → List ℕ
+lines k zero = []
+lines k (suc n) = lines k n ++ line k n
+
+-- "precision "
+abbrev pub precisionText : List ℕ
+precisionText = 112 ∷ 114 ∷ 101 ∷ 99 ∷ 105 ∷ 115 ∷ 105 ∷ 111 ∷ 110 ∷ 32 ∷ []
+
+-- "bytes "
+abbrev pub bytesText : List ℕ
+bytesText = 98 ∷ 121 ∷ 116 ∷ 101 ∷ 115 ∷ 32 ∷ []
+
+-- the first line: the precision and the image length
+unfoldable pub header : ℕ → List ℕ
+header k = precisionText ++ field k space ++ (bytesText ++ field (imageLength k) lineFeed)
+
+-- "refused 1" and a line feed
+abbrev pub refusedText : List ℕ
+refusedText = 114 ∷ 101 ∷ 102 ∷ 117 ∷ 115 ∷ 101 ∷ 100 ∷ 32 ∷ 49 ∷ 10 ∷ []
+
+-- the table of k with the lines of nodes 0 to 2^k where k is in range, and the refusal where it is not
+abbrev pub textFor : Bool → ℕ → List ℕ
+textFor true k = header k ++ lines k (2 ^ k + 1)
+textFor false k = refusedText
+
+-- what is printed for an input
+unfoldable pub tableText : List ℕ → List ℕ
+tableText s = textFor (inRange (precisionOf s)) (precisionOf s)
+
+-- the room that is asked for before a text is written: 32 bytes for each of 4098 lines
+abbrev pub longestText : ℕ
+longestText = 4098 * 32
+
+-- a buffer has room for every text
+abbrev pub hasTextRoom : List ℕ → Bool
+hasTextRoom s = leb longestText (length s)
+
+-- a buffer s after printing: the text at its front, and every byte as found where there is no room
+unfoldable pub printed : List ℕ → List ℕ → List ℕ
+printed input s = cond (hasTextRoom s) (written s 0 (tableText input)) s
+
+-- how many bytes were written at its front
+unfoldable pub printedLength : List ℕ → List ℕ → ℕ
+printedLength input s = cond (hasTextRoom s) (length (tableText input)) 0

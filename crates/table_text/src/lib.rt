@@ -1,0 +1,145 @@
+// The printed table of a precision, as text in a lent buffer.
+ghost use mathlib.Core.Path.{_≡_};
+ghost use mathlib.Core.Bool.{true};
+ghost use mathlib.Core.List.{_++_};
+ghost use Prim.Native.Nat.{_+_, _^_, _≤_};
+ghost use lib.ListN.{length};
+ghost use Rattle.decimal.specs.Text.{Wrote};
+ghost use Rattle.precision.specs.Precision.{inRange};
+ghost use Rattle.table_text.specs.TableText.{
+  precisionOf,
+  lineFeed,
+  hyphenText,
+  textFor,
+  space,
+  field as fieldText,
+  lines as linesText,
+  header as headerText,
+  longestText,
+  printed,
+  printedLength,
+};
+use decimal::Reading;
+use precision::Precision;
+
+// The bytes that a buffer must have: every text fits.
+pub const LONGEST_TEXT: usize = 131136;
+
+// The precision that the input orders: 1 to 9 digits, then one line feed and no more. Other input counts as 0.
+fn ordered(input: &[u8]) -> Precision
+    ensures { λ r. ⌜ r .0 ≡ precisionOf (now (input .entry)) ⌝ }
+{
+    let n = input.len();
+    if n < 2 {
+        return Precision(0);
+    }
+    if 10 < n {
+        return Precision(0);
+    }
+    let last = n - 1;
+    if input[last] != 10 {
+        return Precision(0);
+    }
+    let found = decimal::read(&input[..last]);
+    match found {
+        Reading::Number(k) => Precision(k as u32),
+        Reading::Other => Precision(0),
+    }
+}
+
+// Writes n and the byte b after it.
+fn field(out: &mut [u8], at: usize, n: u64, b: u8) -> usize
+    requires { ⌜ at + 21 ≤ length (now out) ⌝ }
+    ensures { λ r. ⌜ Wrote (now (out .entry)) at (fieldText n b) r (now (out .exit)) ⌝ }
+{
+    let end = decimal::put(out, at, n);
+    out[end] = b;
+    end + 1
+}
+
+// Writes the first two columns of a line: the node's number j and its value c.
+fn columns(out: &mut [u8], at: usize, j: u64, c: u64) -> usize
+    requires { ⌜ at + 42 ≤ length (now out) ⌝ }
+    ensures { λ r. ⌜ Wrote (now (out .entry)) at (fieldText j space ++ fieldText c space) r (now (out .exit)) ⌝ }
+{
+    let next = field(out, at, j, 32);
+    field(out, next, c, 32)
+}
+
+// Writes the line of a node that has a word.
+fn row(out: &mut [u8], at: usize, j: u64, c: u64, word: u64) -> usize
+    requires { ⌜ at + 63 ≤ length (now out) ⌝ }
+    ensures { λ r. ⌜ Wrote (now (out .entry)) at (fieldText j space ++ fieldText c space ++ fieldText word lineFeed) r (now (out .exit)) ⌝ }
+{
+    let next = columns(out, at, j, c);
+    field(out, next, word, 10)
+}
+
+// Writes the line of the last node, which has no word.
+fn last_row(out: &mut [u8], at: usize, j: u64, c: u64) -> usize
+    requires { ⌜ at + 63 ≤ length (now out) ⌝ }
+    ensures { λ r. ⌜ Wrote (now (out .entry)) at (fieldText j space ++ fieldText c space ++ hyphenText) r (now (out .exit)) ⌝ }
+{
+    let next = columns(out, at, j, c);
+    decimal::put_text(out, next, b"-\n")
+}
+
+// Writes a title, then n and the byte b after it.
+fn titled(out: &mut [u8], at: usize, title: &[u8], n: u64, b: u8) -> usize
+    requires { ⌜ at + length (now title) + 21 ≤ length (now out) ⌝ }
+    ensures { λ r. ⌜ Wrote (now (out .entry)) at (now (title .entry) ++ fieldText n b) r (now (out .exit)) ⌝ }
+{
+    let next = decimal::put_text(out, at, title);
+    field(out, next, n, b)
+}
+
+// Writes the first line, with the precision and the image length.
+fn header(out: &mut [u8], k: Precision) -> usize
+    requires { ⌜ (inRange (k .0) ≡ true) × (longestText ≤ length (now out)) ⌝ }
+    ensures { λ r. ⌜ Wrote (now (out .entry)) 0 (headerText (k .0)) r (now (out .exit)) ⌝ }
+{
+    let next = titled(out, 0, b"precision ", k.0 as u64, 32);
+    titled(out, next, b"bytes ", k.image_length() as u64, 10)
+}
+
+// Writes the lines of the nodes that have a word.
+fn rows(out: &mut [u8], start: usize, k: Precision, count: u32) -> usize
+    requires { ⌜ (inRange (k .0) ≡ true) × (count ≡ 2 ^ k .0) × (start ≤ 32) × (longestText ≤ length (now out)) ⌝ }
+    ensures { λ r. ⌜ Wrote (now (out .entry)) start (linesText (k .0) count) r (now (out .exit)) ⌝ }
+{
+    let mut at = start;
+    let mut j: u32 = 0;
+    while j < count {
+        at = row(out, at, j as u64, nodes::value(k, j).0, nodes::word(k, j));
+        j += 1;
+    }
+    at
+}
+
+// Writes the printed table of the precision that the input orders at the front of `out`, and gives its length. The bytes after it
+// stay as found; with fewer than LONGEST_TEXT bytes all do, and the length is 0.
+pub fn print(input: &[u8], out: &mut [u8]) -> usize
+    ensures { λ r. ⌜ r ≡ printedLength (now (input .entry)) (now (out .entry)) ⌝ }
+    ensures { λ r. ⌜ now (out .exit) ≡ printed (now (input .entry)) (now (out .entry)) ⌝ }
+    ensures { λ r. do ⌜ (← ⟦LONGEST_TEXT⟧ .entry) ≡ longestText ⌝ }
+{
+    if out.len() < LONGEST_TEXT {
+        return 0;
+    }
+    let k = ordered(input);
+    if !k.in_range() {
+        return decimal::put_text(out, 0, b"refused 1\n");
+    }
+    table(out, k)
+}
+
+// Writes the table of a precision in range at the front of `out`, and gives its length.
+fn table(out: &mut [u8], k: Precision) -> usize
+    requires { ⌜ (inRange (k .0) ≡ true) × (longestText ≤ length (now out)) ⌝ }
+    ensures { λ r. ⌜ Wrote (now (out .entry)) 0 (textFor true (k .0)) r (now (out .exit)) ⌝ }
+{
+    let count = k.word_count();
+    let first = header(out, k);
+    let last = rows(out, first, k, count);
+    last_row(out, last, count as u64, nodes::value(k, count).0)
+}

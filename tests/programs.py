@@ -1,0 +1,264 @@
+"""Tests of the programs: what they print is compared with what reference.py writes."""
+import pathlib
+import random
+import re
+import subprocess
+import time
+
+import reference
+
+ROOT = pathlib.Path(__file__).resolve().parent.parent
+BIN = ROOT / "target" / "bin"
+
+
+def same(found, expected):
+    """None where the two are equal, else where they first differ."""
+    if found == expected:
+        return None
+    at = next((i for i, (a, b) in enumerate(zip(found, expected)) if a != b), min(len(found), len(expected)))
+    return f"at byte {at}: found {found[at:at + 60]!r}, expected {expected[at:at + 60]!r}"
+
+
+def run(name, pieces, pause=0.0):
+    """What the program writes to standard output when its input arrives in these pieces. It must end well and say nothing else."""
+    process = subprocess.Popen([BIN / name], stdin=subprocess.PIPE, stdout=subprocess.PIPE, stderr=subprocess.PIPE)
+    try:
+        for piece in pieces:
+            process.stdin.write(piece)
+            process.stdin.flush()
+            time.sleep(pause)
+    except BrokenPipeError:
+        pass  # it need not read what it has no use for
+    try:
+        process.stdin.close()
+    except BrokenPipeError:
+        pass
+    process.stdin = None
+    wrote, said = process.communicate(timeout=60)
+    assert process.returncode == 0, f"exit status {process.returncode}"
+    assert said == b"", f"standard error: {said[:80]!r}"
+    return wrote
+
+
+# ---- the cases
+
+def script():
+    return (ROOT / "crates" / "cases" / "stdin").read_bytes()
+
+
+def stored_output():
+    stored = (ROOT / "crates" / "cases" / "stdout").read_bytes()
+    return same(stored, reference.cases(script()).encode())
+
+
+def printed_output():
+    return same(run("cases", [script()]), reference.cases(script()).encode())
+
+
+def random_line(rng):
+    """A line of a script: mostly small precisions, often an image, often slightly damaged, at any length."""
+    k = rng.choice([0, 1, 1, 2, 2, 2, 3, 3, 4, 5, 6, 8, 12, 13, 4294967295])
+    last = 2 ** k if k <= 12 else 4
+    first = rng.choice([0, rng.randint(0, last), last - 1, last, last + 1, rng.randint(0, 2 ** 32 - 1)])
+    to = min(first + rng.randint(0, 5), 2 ** 32 - 1)
+    size = reference.LENGTHS[k - 1] if reference.in_range(k) else 4
+    kind = rng.choice(["hex", "hex", "image", "image", "xor", "xor", "length", "length", "fill", "build", "check", "check", "node",
+                       "node", "word", "rule", "gather"])
+    return {
+        "hex": "hex " + " ".join(f"{rng.randrange(256):02X}" for _ in range(rng.randint(1, 9))),
+        "image": f"image {k}",
+        "xor": f"xor {rng.randrange(rng.choice([1, 3, 8, 20, 16384]))} {rng.choice([1, 2, 4, 8, 16, 32, 64, 128, 255])}",
+        "length": f"length {rng.choice([0, max(size - 1, 0), size, size + 1, rng.randint(0, 40), 16384])}",
+        "fill": f"fill {rng.randrange(256)}",
+        "build": f"build {rng.choice([0, 1, 2, 3, 4, 13])}",
+        "check": f"check {k}",
+        "node": f"node {first} {to} {k}",
+        "word": f"word {first} {to} {k}",
+        "rule": f"rule {first} {to} {k}",
+        "gather": f"gather {k} {min(last + 1, 300)}",
+    }[kind]
+
+
+def random_scripts(seed):
+    rng = random.Random(seed)
+    text = "".join(random_line(rng) + "\n" for _ in range(400)).encode()
+    return same(run("cases", [text]), reference.cases(text).encode())
+
+
+# ---- what the documents say
+
+def document_examples():
+    """The image examples of document 01, as it has them, by the reference."""
+    nodes = {1: [32, 22, 16], 2: [128, 103, 86, 74, 64], 3: [512, 456, 410, 373, 342, 316, 293, 274, 256]}
+    images = {1: "06", 2: "02 75 8A", 3: "00 C8 9A 75 56 3C 25 12"}
+    for k in (1, 2, 3):
+        if [reference.node(k, j) for j in range(2 ** k + 1)] != nodes[k]:
+            return f"the nodes of precision {k}"
+        if reference.image(k) != bytes.fromhex(images[k]):
+            return f"the image of precision {k}"
+    two = bytes.fromhex("02758A")
+    limits = [
+        (reference.call_check(0, two), (1, 0, 0)),
+        (reference.call_check(13, bytes(20000)), (1, 0, 0)),
+        (reference.call_build(12, bytes(13312))[0], (0, 0, 0)),
+        (reference.call_build(12, bytes(13311)), ((2, 0, 0), bytes(13311))),
+        (reference.call_node(2, two, 4), (0, 0, 64)),
+        (reference.call_node(2, two, 5), (3, 0, 0)),
+        (reference.call_word_bytes(2, two, 1), bytes.fromhex("0275")),
+        (reference.call_word_bytes(2, two, 3), bytes.fromhex("8A")),
+        (reference.call_word_bytes(2, two, 4), b""),
+        (reference.call_check(2, bytes.fromhex("02758B")), (6, 3, 0)),
+        (reference.call_check(2, bytes.fromhex("000000")), (6, 1, 0)),
+        (reference.call_check(2, bytes.fromhex("06758A")), (6, 0, 0)),
+    ]
+    for number, (found, expected) in enumerate(limits):
+        if found != expected:
+            return f"limit {number}: found {found}, expected {expected}"
+    return None
+
+
+PRINTED_2 = b"""precision 2 bytes 3
+0 128 0
+1 103 39
+2 86 22
+3 74 10
+4 64 -
+"""
+
+
+def document_table():
+    return same(reference.table(b"2\n").encode(), PRINTED_2)
+
+
+# ---- Table 1 of document 002
+
+def paper_rows():
+    lines = (ROOT / "tests" / "table1.txt").read_text().splitlines()
+    return [line for line in lines if line and not line.startswith("#")]
+
+
+def in_base_2(text):
+    whole, _, fraction = text.partition(".")
+    return int(whole + fraction, 2)
+
+
+def printed_rows(output):
+    """The rows of Table 1 by the node values that stand below its heading in what `cases` prints."""
+    part = output.decode().split("# Table 1 of document 002\n", 1)[1].split("\n#", 1)[0]
+    values = re.findall(r"^  (\d+): number 0 place 0 value (\d+)$", part, re.M)
+    return [f"1.{int(j):02b} xxxxx {int(value) // 128}.{int(value) % 128:07b}" for j, value in values]
+
+
+def table1_reference():
+    for row in paper_rows():
+        index, _, value = row.split(" ")
+        j = in_base_2(index) - 4  # 1.xx is i = 2^k + j, in units of 1 / 2^k
+        if reference.node(2, j) != in_base_2(value):
+            return f"{row}: the reference has {reference.node(2, j)}"
+    return None if len(paper_rows()) == 4 else "the table has four rows"
+
+
+def table1_program():
+    found = printed_rows(run("cases", [script()]))
+    return None if found == paper_rows() else f"found {found}"
+
+
+# ---- the printed table
+
+MIB = 2 ** 20
+
+GOOD = {f"precision {k}": [b"%d\n" % k] for k in range(1, 13)}
+GOOD.update({
+    "leading zero": [b"02\n"],
+    "nine digits, 2": [b"000000002\n"],
+    "nine digits, 12": [b"000000012\n"],
+    "in three pieces": [b"1", b"2", b"\n"],
+    "in ten pieces": [bytes([byte]) for byte in b"000000003\n"],
+    "the line feed by itself": [b"7", b"\n"],
+})
+
+BAD = {
+    "empty": [],
+    "no line feed": [b"2"],
+    "line feed alone": [b"\n"],
+    "two line feeds": [b"2\n\n"],
+    "line feed first": [b"\n2\n"],
+    "carriage return": [b"2\r\n"],
+    "plus": [b"+2\n"],
+    "minus": [b"-2\n"],
+    "space before": [b" 2\n"],
+    "space after": [b"2 \n"],
+    "space within": [b"1 2\n"],
+    "tab": [b"\t2\n"],
+    "ten digits, 2": [b"0000000002\n"],
+    "ten digits, 2 modulo 2^32": [b"4294967298\n"],
+    "twenty digits, 2 modulo 2^64": [b"18446744073709551618\n"],
+    "NUL": [b"\0"],
+    "NUL before": [b"\x002\n"],
+    "NUL after": [b"2\0\n"],
+    "NUL after the line feed": [b"2\n\0"],
+    "letters": [b"two\n"],
+    "letter after": [b"2x\n"],
+    "hex": [b"0x2\n"],
+    "fraction": [b"2.0\n"],
+    "slash": [b"/\n"],
+    "colon": [b":\n"],
+    "high byte": [b"\xb2\n"],
+    "digit of another script": ["٢\n".encode()],
+    "0": [b"0\n"],
+    "nine zeros": [b"000000000\n"],
+    "13": [b"13\n"],
+    "258": [b"258\n"],
+    "999999999": [b"999999999\n"],
+    "two lines": [b"2\n3\n"],
+    "1 MiB of digits": [b"2" * MIB],
+    "1 MiB of zeros, then 2": [b"0" * MIB + b"2\n"],
+    "2, then 1 MiB of NUL": [b"2\n" + bytes(MIB)],
+    "1 MiB of line feeds": [b"\n" * MIB],
+    "1 MiB of lines": [b"2\n" * (MIB // 2)],
+    "a second line feed, later": [b"2\n", b"\n"],
+    "a digit after the line feed, later": [b"2\n", b"2"],
+    "ten digits in two pieces": [b"00000", b"00002\n"],
+    "no line feed, in two pieces": [b"1", b"2"],
+}
+# A buffer's end must not be taken for the input's: lengths about the sizes that a reader may use.
+for size in (10, 11, 12, 16, 20, 32, 64, 4096, 65536):
+    for length in (size - 1, size, size + 1):
+        BAD[f"{length} bytes of zeros, then 2"] = [b"0" * length, b"2\n"]
+        BAD[f"2, then {length} bytes of line feeds"] = [b"2\n", b"\n" * length]
+        if length > 2:
+            BAD[f"2 in {length} bytes"] = [b"2\n".ljust(length, b"\0")]
+
+
+def printed_table(pieces, refused):
+    expected = reference.table(b"".join(pieces)).encode()
+    if (expected == b"refused 1\n") != refused:
+        return f"the reference says {expected[:40]!r}"
+    return same(run("print_table", pieces, 0.02 if len(pieces) > 1 else 0.0), expected)
+
+
+def printed_table_closed():
+    """Standard input is closed before the program starts, so that it can read nothing."""
+    done = subprocess.run(["sh", "-c", 'exec "$0" <&-', BIN / "print_table"], capture_output=True, timeout=60)
+    return same(done.stdout, b"refused 1\n") or (f"exit status {done.returncode}" if done.returncode else None)
+
+
+def printed_table_document():
+    return same(run("print_table", [b"2\n"]), PRINTED_2)
+
+
+def tests():
+    yield "document 01: the examples and limits of the image, by the reference", document_examples
+    yield "document 01: the printed table of precision 2, by the reference", document_table
+    yield "cases: the stored output is what the reference writes", stored_output
+    yield "cases: the program prints what the reference writes", printed_output
+    for seed in range(12):
+        yield f"cases: 400 random lines, seed {seed}", lambda seed=seed: random_scripts(seed)
+    yield "Table 1 of document 002: the reference", table1_reference
+    yield "Table 1 of document 002: the program", table1_program
+    yield "print_table: document 01, precision 2", printed_table_document
+    for name, pieces in GOOD.items():
+        yield f"print_table: {name}", lambda pieces=pieces: printed_table(pieces, False)
+    for name, pieces in BAD.items():
+        yield f"print_table refuses: {name}", lambda pieces=pieces: printed_table(pieces, True)
+    yield "print_table refuses: input closed", printed_table_closed

@@ -1,0 +1,243 @@
+#!/usr/bin/env python3
+"""Writes what the programs must print. It shares no code with the library and works by another method:
+fractions for the nodes, strings of '0' and '1' for the packing, the answers from the words of document 01.
+
+usage: reference.py cases <SCRIPT   what the program `cases` prints on that script (crates/cases/stdin)
+       reference.py table <INPUT    what the program `print_table` prints on that standard input
+"""
+import functools
+import math
+import re
+import sys
+from fractions import Fraction
+
+LEAST, GREATEST = 1, 12
+LENGTHS = [1, 3, 8, 20, 48, 112, 256, 576, 1280, 2816, 6144, 13312]  # as document 01 lists them
+
+
+# ---- the meaning
+
+def in_range(k):
+    return LEAST <= k <= GREATEST
+
+
+@functools.lru_cache(maxsize=None)
+def node(k, j):
+    """c(j): 2^(3k+3) / i, rounded up, where i = 2^k + j."""
+    return math.ceil(Fraction(2 ** (3 * k + 3)) / Fraction(2 ** k + j))
+
+
+def width(k):
+    return 2 * k + 2
+
+
+def stored(k, j):
+    """The word of node j: c(j) modulo 2^(2k+2), as a string of bits, most significant first."""
+    return format(node(k, j), "b").zfill(2 * k + 4)[-width(k):]
+
+
+@functools.lru_cache(maxsize=None)
+def image(k):
+    """The words in node order, with no padding, cut into bytes."""
+    bits = "".join(stored(k, j) for j in range(2 ** k))
+    assert len(bits) == 8 * LENGTHS[k - 1]
+    return bytes(int(bits[at:at + 8], 2) for at in range(0, len(bits), 8))
+
+
+@functools.lru_cache(maxsize=64)
+def bits_of(buffer):
+    return "".join(format(byte, "08b") for byte in buffer)
+
+
+def word_is_right(k, buffer, j):
+    return bits_of(buffer)[j * width(k):(j + 1) * width(k)] == stored(k, j)
+
+
+# ---- the calls: each answer is (number, place, value)
+
+def first_two(k, buffer):
+    """Refusals 1 and 2, or 0."""
+    if not in_range(k):
+        return 1
+    if len(buffer) < LENGTHS[k - 1]:
+        return 2
+    return 0
+
+
+def call_build(k, buffer):
+    number = first_two(k, buffer)
+    if number:
+        return (number, 0, 0), buffer
+    return (0, 0, 0), image(k) + buffer[LENGTHS[k - 1]:]
+
+
+def call_check(k, buffer):
+    number = first_two(k, buffer)
+    if number:
+        return (number, 0, 0)
+    bad = [j for j in range(2 ** k) if not word_is_right(k, buffer, j)]
+    return (6, min(bad), 0) if bad else (0, 0, 0)
+
+
+def call_node(k, buffer, j):
+    number = first_two(k, buffer)
+    if number:
+        return (number, 0, 0)
+    if j > 2 ** k:
+        return (3, 0, 0)
+    if j < 2 ** k and not word_is_right(k, buffer, j):
+        return (6, j, 0)
+    return (0, 0, node(k, j))
+
+
+def call_word_bytes(k, buffer, j):
+    if first_two(k, buffer) or j > 2 ** k - 1:
+        return b""
+    first = math.floor(Fraction(j * width(k), 8))
+    last = math.floor(Fraction(j * width(k) + width(k) - 1, 8))
+    return bytes(buffer[at] for at in range(first, last + 1))
+
+
+# ---- the printed table
+
+def table(data):
+    """What print_table prints: 1 to 9 digits and one line feed give a precision, other input counts as 0."""
+    k = int(data[:-1]) if re.fullmatch(rb"[0-9]{1,9}\n", data) else 0
+    if not in_range(k):
+        return "refused 1\n"
+    lines = [f"precision {k} bytes {len(image(k))}"]
+    lines += [f"{j} {node(k, j)} {int(stored(k, j), 2)}" for j in range(2 ** k)]
+    lines.append(f"{2 ** k} {node(k, 2 ** k)} -")
+    return "".join(line + "\n" for line in lines)
+
+
+# ---- the program `cases`
+
+ROOM = 16384  # bytes, of which the front is lent
+SCRIPT = 65536  # bytes of the script that are read
+
+
+def rows(data):
+    """Bytes in hex, each after a space, 32 to a line."""
+    lines = [data[at:at + 32] for at in range(0, len(data), 32)]
+    return "\n ".join("".join(f" {byte:02X}" for byte in line) for line in lines)
+
+
+def answered(answer):
+    return "number {} place {} value {}".format(*answer)
+
+
+def folded(values):
+    """One number that depends on each value and on their order."""
+    return functools.reduce(lambda total, value: (31 * total + value) % 2 ** 32, values, 0)
+
+
+def value_or_0(k, j):
+    """c(j), 0 where there is no such node."""
+    return node(k, j) if in_range(k) and j <= 2 ** k else 0
+
+
+class Cases:
+    """Runs a script as crates/cases/src/main.rt describes it: each command is a method, and what it returns is printed."""
+
+    def __init__(self):
+        self.room = bytes(ROOM)
+        self.lent = 0
+
+    def buffer(self):
+        return self.room[:self.lent]
+
+    def put(self, data):
+        """Bytes at the front of the room."""
+        self.room = data + self.room[len(data):]
+
+    def fill(self, byte):
+        self.room = bytes([byte]) * ROOM
+        return ""
+
+    def up(self):
+        self.room = bytes(number % 256 for number in range(ROOM))
+        return ""
+
+    def hex(self, *data):
+        self.put(bytes(data))
+        self.lent = len(data)
+        return ""
+
+    def image(self, k):
+        self.put(call_build(k, self.room)[1])
+        self.lent = LENGTHS[k - 1] if in_range(k) else 0
+        return ""
+
+    def xor(self, at, mask):
+        self.room = self.room[:at] + bytes([self.room[at] ^ mask]) + self.room[at + 1:]
+        return ""
+
+    def length(self, count):
+        self.lent = count
+        return ""
+
+    def build(self, k):
+        answer, after = call_build(k, self.buffer())
+        self.put(after)
+        shown = rows(after) if answer[0] == 0 or len(after) <= 32 else f" fold to {folded(after)}"
+        return f": {answered(answer)} bytes{shown}"
+
+    def check(self, k):
+        return f": {answered(call_check(k, self.buffer()))}"
+
+    def gather(self, k, past):
+        answers = [call_node(k, self.buffer(), j) for j in range(past)]
+        return f": fold to {folded(part for number, _, value in answers for part in (number, value))}"
+
+    def precision(self, k):
+        place = "in" if in_range(k) else "not in"
+        length = Fraction(2 ** k * width(k), 8) if in_range(k) else 0
+        return f": {place} {LEAST} to {GREATEST}, width {width(k)} length {length} of at most {max(LENGTHS)}"
+
+    def each(self, first, last, answer):
+        """A line for each number from the first to the last, of which there is at least one."""
+        return "".join(f"\n  {j}: {answer(j)}" for j in range(first, max(first, last) + 1))
+
+    def node(self, first, last, k):
+        return self.each(first, last, lambda j: answered(call_node(k, self.buffer(), j)))
+
+    def word(self, first, last, k):
+        def answer(j):
+            part = call_word_bytes(k, self.buffer(), j)
+            return f"{len(part)} bytes{rows(part)}"
+        return self.each(first, last, answer)
+
+    def rule(self, first, last, k):
+        def answer(j):
+            word = int(stored(k, j), 2) if in_range(k) and j < 2 ** k else 0
+            return f"value {value_or_0(k, j)} word {word}"
+        return self.each(first, last, answer)
+
+    def eight(self, first, last):
+        return self.each(first, last, lambda j: f"{value_or_0(8, j)}, " + (f"entry {node(8, j)}" if j <= 256 else "no entry"))
+
+
+def cases(script):
+    """What `cases` prints on a script: each line, and what its command answers."""
+    assert len(script) <= SCRIPT, "the program reads no more of a script"
+    run = Cases()
+    printed = []
+    for line in script.decode("ascii").splitlines():
+        word, *rest = line.split(" ")
+        numbers = [] if word.startswith("#") else [int(text, 16 if word == "hex" else 10) for text in rest]
+        printed.append(line + ("" if word.startswith("#") else getattr(run, word)(*numbers)) + "\n")
+    return "".join(printed)
+
+
+def main():
+    if sys.argv[1:] == ["cases"]:
+        sys.stdout.write(cases(sys.stdin.buffer.read()))
+    elif sys.argv[1:] == ["table"]:
+        sys.stdout.write(table(sys.stdin.buffer.read()))
+    else:
+        sys.exit(__doc__)
+
+
+if __name__ == "__main__":
+    main()

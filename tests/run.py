@@ -1,0 +1,36 @@
+#!/usr/bin/env python3
+"""Runs the tests that are run and not proved, after `rt ci` or `rt check` has made target/.
+
+usage: python3 tests/run.py [WORD]     only the tests whose names hold WORD
+
+A line for each test, then 'N passed, M failed'; the exit status is 1 where any failed or none was run.
+"""
+import pathlib
+import sys
+
+sys.path.insert(0, str(pathlib.Path(__file__).resolve().parent))
+sys.dont_write_bytecode = True
+
+import programs  # noqa: E402
+import repository  # noqa: E402
+
+
+def main():
+    word = sys.argv[1] if len(sys.argv) > 1 else ""
+    passed = failed = 0
+    for name, test in [*programs.tests(), *repository.tests()]:
+        if word not in name:
+            continue
+        try:
+            why = test()
+        except Exception as error:  # a test that cannot be run has failed
+            why = f"{type(error).__name__}: {error}"
+        passed += why is None
+        failed += why is not None
+        print(f"ok    {name}" if why is None else f"FAIL  {name}: {why}", flush=True)
+    print(f"{passed} passed, {failed} failed")
+    sys.exit(1 if failed or not passed else 0)
+
+
+if __name__ == "__main__":
+    main()
