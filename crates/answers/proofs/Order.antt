@@ -1,13 +1,13 @@
 -- What the order of a list of refusals means for the number, the place and the value of an answer, for any list.
 -- Assumes nothing.
-use mathlib.Core.Path.{_≡_, refl, sym, _∙_, ap}
+use mathlib.Core.Path.{_≡_, refl, sym}
 use mathlib.Core.Logic.{_↔_}
 use mathlib.Core.Bool.{Bool, true, false, cond, not, _&&_, _||_}
 use mathlib.Core.List.{List, [], _∷_}
 use Prim.Native.Nat.{ℕ}
-use native.Mathlib.Omega.{arith}
 use lib.Dec.{T, eqb, eqb→eq, eqb-refl, T-not}
-use Rattle.answers.specs.Refusal.{Refusal, Outcome, outcome, turnedBack, served}
+use Rattle.truth.proofs.Bools.{both}
+use Rattle.answers.specs.Refusal.{Refusal, Outcome, outcome, turnedBack}
 
 -- n is neither 0 nor the number of a refusal in the list
 abbrev pub avoids : ℕ → List Refusal → Bool
@@ -24,14 +24,6 @@ abbrev pub placedAt : ℕ → List Refusal → Bool
 placedAt n [] = true
 placedAt n (r ∷ rs) = (eqb (r .number) n || eqb (r .place) 0) && placedAt n rs
 
-and-left : (a b : Bool) → T (a && b) → T a
-and-left true b t = tt
-and-left false b t = absurd t
-
-and-right : (a b : Bool) → T (a && b) → T b
-and-right true b t = t
-and-right false b t = absurd t
-
 -- two numbers that a test tells apart are not equal
 pub apart : (m n : ℕ) → T (not (eqb m n)) → m ≡ n → ⊥
 apart m n t e = T-not (eqb m n) t (rw e (eqb-refl n))
@@ -46,8 +38,8 @@ pub avoided : (n : ℕ) (rs : List Refusal) (v : ℕ) → T (avoids n rs) → ou
 avoided n [] v t = λ e. apart n 0 t (sym e)
 avoided n (r ∷ rs) v t =
     chosen (λ o. o .number ≡ n → ⊥) (r .applies) (turnedBack r) (outcome rs v)
-    (λ e. apart n (r .number) (and-left (not (eqb n (r .number))) (avoids n rs) t) (sym e))
-    (avoided n rs v (and-right (not (eqb n (r .number))) (avoids n rs) t))
+    (λ e. apart n (r .number) (both (not (eqb n (r .number))) (avoids n rs) t .0) (sym e))
+    (avoided n rs v (both (not (eqb n (r .number))) (avoids n rs) t .1))
 
 first-of : (b : Bool) (x y : Outcome) (n : ℕ) → x .number ≡ n → (y .number ≡ n → ⊥) → (cond b x y .number ≡ n) ↔ T b
 first-of true x y n e f = (λ h. tt, λ t. e)
@@ -81,8 +73,8 @@ pub served-value : (rs : List Refusal) (v : ℕ) → T (numbered rs) → outcome
 served-value [] v t = λ e. (refl, refl)
 served-value (r ∷ rs) v t =
     chosen (λ o. o .number ≡ 0 → (o .place ≡ 0) × (o .value ≡ v)) (r .applies) (turnedBack r) (outcome rs v)
-    (λ e. absurd (apart (r .number) 0 (and-left (not (eqb (r .number) 0)) (numbered rs) t) e))
-    (served-value rs v (and-right (not (eqb (r .number) 0)) (numbered rs) t))
+    (λ e. absurd (apart (r .number) 0 (both (not (eqb (r .number) 0)) (numbered rs) t .0) e))
+    (served-value rs v (both (not (eqb (r .number) 0)) (numbered rs) t .1))
 
 or-apart : (a b : Bool) → T (a || b) → (T a → ⊥) → T b
 or-apart true b t f = absurd (f tt)
@@ -94,6 +86,6 @@ placed n [] v t = λ f. refl
 placed n (r ∷ rs) v t =
     chosen (λ o. (o .number ≡ n → ⊥) → o .place ≡ 0) (r .applies) (turnedBack r) (outcome rs v)
     (λ f. eqb→eq (r .place) 0
-    (or-apart (eqb (r .number) n) (eqb (r .place) 0) (and-left (eqb (r .number) n || eqb (r .place) 0) (placedAt n rs) t)
+    (or-apart (eqb (r .number) n) (eqb (r .place) 0) (both (eqb (r .number) n || eqb (r .place) 0) (placedAt n rs) t .0)
     (λ h. f (eqb→eq (r .number) n h))))
-    (placed n rs v (and-right (eqb (r .number) n || eqb (r .place) 0) (placedAt n rs) t))
+    (placed n rs v (both (eqb (r .number) n || eqb (r .place) 0) (placedAt n rs) t .1))

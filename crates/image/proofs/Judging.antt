@@ -1,19 +1,18 @@
 -- What the judging of the word of node j says, where both limits are kept, and what it means for the answer of reading a node.
 -- Assumes nothing.
-use mathlib.Core.Path.{_≡_, refl, sym, _∙_, ap}
-use mathlib.Core.Bool.{Bool, true, false, cond, not, _&&_}
+use mathlib.Core.Path.{_≡_, sym, _∙_, ap}
+use mathlib.Core.Bool.{Bool, true, false, not, _&&_}
 use mathlib.Core.List.{List, [], _∷_}
 use Prim.Native.Nat.{ℕ, _^_, _≤_, _<_}
-use native.Mathlib.Nat.{le-refl}
 use native.Mathlib.Omega.{arith}
 use lib.Dec.{eqb}
 use borrow.Author.Tests.{lt-ltb, le-ltb, eq-eqb, ne-eqb, not-false}
 use Rattle.precision.specs.Precision.{wordWidth}
 use Rattle.precision.proofs.Range.{range-in}
-use Rattle.nodes.specs.Nodes.{decode, isRight, judged, hasWord}
+use Rattle.nodes.specs.Nodes.{decode, isRight, judged}
 use Rattle.nodes.proofs.Nodes.{judged-zero, has-word}
 use Rattle.packing.specs.Packing.{wordRead}
-use Rattle.answers.specs.Refusal.{Refusal, Outcome, outcome, served}
+use Rattle.answers.specs.Refusal.{outcome, served}
 use Rattle.image.specs.Image.{wordOf, isWrong}
 use Rattle.image.specs.Refusals.{nodeRefusal, wordRefusal}
 use Rattle.image.proofs.Laws.{word-read}

@@ -1,21 +1,20 @@
 -- What holds of the image of a precision k from 1 on, and of a buffer that holds words for it.
 -- Assumes nothing.
 use mathlib.Core.Path.{_≡_, refl, sym, _∙_, ap}
-use mathlib.Core.Bool.{Bool, true, false, not}
+use mathlib.Core.Bool.{false, not}
 use mathlib.Core.List.{List, _++_}
-use Prim.Native.Nat.{ℕ, zero, suc, _+_, _-_, _*_, _/_, _^_, _≤_, _<_}
-use native.Mathlib.Nat.{not-suc-le-zero, pow-suc, mod-lt, mul-div-cancel-left}
+use Prim.Native.Nat.{ℕ, zero, suc, _+_, _*_, _^_, _≤_, _<_}
+use native.Mathlib.Nat.{not-suc-le-zero, pow-suc, mod-lt}
 use native.Mathlib.Omega.{arith}
 use lib.Pow.{pow-pos}
-use lib.ListN.{length, take, drop, length-append, length-drop}
+use lib.ListN.{length, take, length-append, length-drop}
 use lib.Seq.{take-at}
 use borrow.Author.Tests.{eq-eqb, eqb-true, le-leb, not-false}
 use Rattle.precision.specs.Precision.{wordWidth, wordCount, imageLength}
 use Rattle.nodes.specs.Nodes.{node, storedWord, isRight}
-use Rattle.packing.specs.Packing.{Bytes, byteCount, fillBits, wordAt, isReadable, wordRead, widest}
+use Rattle.packing.specs.Packing.{Bytes, byteCount, fillBits, wordRead, widest}
 use Rattle.packing.proofs.Image.{length-packedBytes, bytes-packedBytes, packed-word, word-of-front, words-front}
 use Rattle.packing.proofs.Words.{word-within}
-use Rattle.image.specs.Lowest.{lowest}
 use Rattle.image.specs.Image.{image, afterImage, builtBuffer, wordOf, isWrong, firstWrong}
 use Rattle.image.proofs.Lowest.{lowest-none}
 

@@ -1,24 +1,15 @@
 -- The laws of the lowest number below n that passes a test.
 -- Assumes nothing.
-use mathlib.Core.Path.{_≡_, refl, sym, _∙_, ap}
+use mathlib.Core.Path.{_≡_, refl, _∙_, ap}
 use mathlib.Core.Logic.{_⊎_, inl, inr, ⊎-elim}
-use mathlib.Core.Bool.{Bool, true, false, cond}
+use mathlib.Core.Bool.{Bool, true, false}
 use Prim.Native.Nat.{ℕ, zero, suc, _≤_, _<_}
 use native.Mathlib.Nat.{le-refl, not-suc-le-zero}
 use native.Mathlib.Omega.{arith}
 use lib.Dec.{ltb}
-use borrow.Author.Tests.{lt-ltb, le-ltb, ltb-true, ltb-false}
+use borrow.Author.Tests.{ltb-true, ltb-false}
+use Rattle.truth.proofs.Bools.{cases, clash, below-or-not}
 use Rattle.image.specs.Lowest.{lowest}
-
-cases : (b : Bool) → (b ≡ true) ⊎ (b ≡ false)
-cases true = inl refl
-cases false = inr refl
-
-clash : {b : Bool} → b ≡ true → b ≡ false → ⊥
-clash t f = let z : _≡_ {A = ℕ} 0 1 = cc in omega arith
-
-below-or-not : (i m : ℕ) → (i < m) ⊎ (m ≤ i)
-below-or-not i m = ⊎-elim (λ t. inl (ltb-true i m t)) (λ f. inr (ltb-false i m f)) (cases (ltb i m))
 
 -- one number more: found already, found now, or not found yet
 one-more : (p : ℕ → Bool) (n : ℕ) → ((lowest p n < n) × (lowest p (suc n) ≡ lowest p n)) ⊎ (((n ≤ lowest p n) × (p n ≡ true) × (lowest p (suc n) ≡ n)) ⊎ ((n ≤ lowest p n) × (p n ≡ false) × (lowest p (suc n) ≡ suc n)))

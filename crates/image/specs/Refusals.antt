@@ -1,7 +1,7 @@
 -- The refusals of the calls on an image, each a definition of its own (document 01, "Turned back, in checking order").
 -- Assumes nothing.
 use Prim.Native.Nat.{ℕ, _^_}
-use mathlib.Core.Bool.{Bool, cond, not, _&&_}
+use mathlib.Core.Bool.{cond, not, _&&_}
 use mathlib.Core.List.{List}
 use lib.Dec.{ltb}
 use lib.ListN.{length}

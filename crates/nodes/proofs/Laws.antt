@@ -7,9 +7,15 @@ use native.Mathlib.Nat.{le-refl, zero-lt-suc, not-suc-le-zero, add-assoc, mul-le
 use native.Mathlib.Omega.{arith}
 use lib.Dec.{eqb}
 use borrow.Author.Tests.{eq-eqb, ne-eqb, eqb-true}
+use Rattle.truth.proofs.Bools.{same}
 use Rattle.quotient.specs.Quotient.{roundedUp, roundsUp}
-use Rattle.quotient.proofs.Laws.{same, reaches, passes-less, unique, rounds-up}
+use Rattle.quotient.proofs.Laws.{reaches, passes-less, unique, rounds-up}
 use Rattle.nodes.specs.Nodes.{decodeBelow}
+
+-- what is asked of H and K
+pub record Shape (H K : ℕ) : Type 0 where
+  pub some : 0 < K
+  pub wide : 2 * K ≤ H + 1
 
 -- node j: the numerator over K + j, rounded up
 abbrev pub nodeAt : ℕ → ℕ → ℕ → ℕ
@@ -36,7 +42,7 @@ near-core (suc E) K i c c' M kd ki m h l l' =
     let ki' : K + 1 ≤ i + 1 = omega arith in
     omega (arith, mul-le-mul-right (i + 1) a, mul-le-mul-left E (mul-le-mul ki ki'), mul-le-mul-right K ke))
 
-module _ (H K : ℕ) (pos : 0 < K) (wide : 2 * K ≤ H + 1) where
+module _ {H K : ℕ} (shape : Shape H K) where
   -- node 0 is twice the leading one
   pub first : nodeAt H K 0 ≡ 2 * H
   first = sym (unique (2 * H * K) (K + 0) (omega arith) (2 * H) (omega arith) (omega arith))

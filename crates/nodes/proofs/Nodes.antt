@@ -5,35 +5,30 @@ use mathlib.Core.Bool.{Bool, true, false, cond, not, _&&_, and-eq-true-iff, and-
 use Prim.Native.Nat.{ℕ, _+_, _-_, _*_, _%_, _^_, _≤_, _<_}
 use native.Mathlib.Nat.{mod-lt, lt-of-not-le, zero-mul}
 use native.Mathlib.Omega.{arith}
-use lib.Dec.{leb, ltb, eqb}
+use lib.Dec.{ltb, eqb}
 use lib.Pow.{pow-pos}
-use borrow.Author.Tests.{eq-eqb, ne-eqb, eqb-true, leb-true, ltb-true, le-leb, lt-leb, lt-ltb, le-ltb}
-use Rattle.precision.specs.Precision.{wordWidth, inRange}
+use borrow.Author.Tests.{eq-eqb, ne-eqb, eqb-true, ltb-true, le-leb, lt-leb, lt-ltb, le-ltb}
+use Rattle.precision.specs.Precision.{wordWidth, inRange, orderedWords}
 use Rattle.quotient.specs.Quotient.{roundedUp, roundsUp}
 use Rattle.quotient.proofs.Laws.{reaches, antitone}
 use Rattle.nodes.specs.Nodes.{node, storedWord, decodeBelow, decode, hasWord, isRight, judged, nodeOr0, wordOr0}
 use Rattle.nodes.proofs.Laws as laws
-use Rattle.nodes.proofs.Laws.{nodeAt}
-use Rattle.nodes.proofs.Powers.{numerator, wide, double, step, step-wide}
+use Rattle.nodes.proofs.Laws.{Shape, nodeAt}
+use Rattle.nodes.proofs.Powers as powers
+use Rattle.nodes.proofs.Powers.{numerator, double, step, step-wide}
 
--- k is a precision: it is at most 12
-pub in-range-le : (k : ℕ) → inRange k ≡ true → k ≤ 12
-in-range-le k t = leb-true k 12 (and-eq-true-iff (leb 1 k) (leb k 12) .0 t .1)
-
-picked : (x : ℕ) (a b : Bool) → a ≡ true → b ≡ true → cond (a && b) x 0 ≡ x
-picked x a b e f = rw (e, f)
-
-unpicked-first : (x : ℕ) (a b : Bool) → a ≡ false → cond (a && b) x 0 ≡ 0
-unpicked-first x a b e = rw e
-
-unpicked-second : (x : ℕ) (a b : Bool) → b ≡ false → cond (a && b) x 0 ≡ 0
-unpicked-second x a b e = rw (e, and-false)
+past-choice : (b : Bool) (j n : ℕ) → cond b n 0 ≤ j → (b && ltb j n) ≡ false
+past-choice true j n h = le-ltb j n h
+past-choice false j n h = refl
 
 or-zero : (b : Bool) (x : ℕ) → (b ≡ true → 0 < x) → eqb (cond b x 0) 0 ≡ not b
 or-zero true x h = ne-eqb x 0 (λ e. omega (arith, e, h refl))
 or-zero false x h = refl
 
 module _ (k : ℕ) where
+  shape : Shape (2 ^ (2 * k + 2)) (2 ^ k)
+  shape = powers.shape k 2 (omega arith)
+
   -- node j over plain numbers
   pub node-at : (j : ℕ) → node k j ≡ nodeAt (2 ^ (2 * k + 2)) (2 ^ k) j
   node-at j = ap (λ (M : ℕ). roundedUp M (2 ^ k + j)) (numerator k 2)
@@ -44,25 +39,25 @@ module _ (k : ℕ) where
 
   -- node 0 is 2^(2k+3)
   pub node-first : node k 0 ≡ 2 ^ (2 * k + 3)
-  node-first = node-at 0 ∙ laws.first (2 ^ (2 * k + 2)) (2 ^ k) (pow-pos k) (wide k 2 (omega arith)) ∙ lead-double
+  node-first = node-at 0 ∙ laws.first shape ∙ lead-double
 
   -- node 2^k is 2^(2k+2)
   pub node-last : node k (2 ^ k) ≡ 2 ^ (2 * k + 2)
-  node-last = node-at (2 ^ k) ∙ laws.last (2 ^ (2 * k + 2)) (2 ^ k) (pow-pos k) (wide k 2 (omega arith))
+  node-last = node-at (2 ^ k) ∙ laws.last shape
 
   -- a node before node 2^k is above 2^(2k+2)
   pub node-above : (j : ℕ) → j < 2 ^ k → 2 ^ (2 * k + 2) < node k j
-  node-above j h = rw node-at (laws.above (2 ^ (2 * k + 2)) (2 ^ k) (pow-pos k) (wide k 2 (omega arith)) j h)
+  node-above j h = rw node-at (laws.above shape j h)
 
   -- a node after node 0 is below 2^(2k+3)
   pub node-below : (j : ℕ) → 0 < j → node k j < 2 ^ (2 * k + 3)
   node-below j h =
-      rw (node-at, ← lead-double) (laws.below (2 ^ (2 * k + 2)) (2 ^ k) (pow-pos k) (wide k 2 (omega arith)) j h)
+      rw (node-at, ← lead-double) (laws.below shape j h)
 
   -- each node is below the one before it
   pub node-falls : (j : ℕ) → j < 2 ^ k → node k (j + 1) < node k j
   node-falls j h =
-      rw (node-at j, node-at (j + 1)) (laws.falls (2 ^ (2 * k + 2)) (2 ^ k) (pow-pos k) (wide k 2 (omega arith)) j h)
+      rw (node-at j, node-at (j + 1)) (laws.falls shape j h)
 
   -- a later node is no greater
   pub node-ordered : {i j : ℕ} → i ≤ j → node k j ≤ node k i
@@ -72,7 +67,7 @@ module _ (k : ℕ) where
   pub node-near : (j : ℕ) → node k j < node k (j + 1) + 2 ^ (k + 3)
   node-near j =
       rw (node-at j, node-at (j + 1))
-      (laws.near (2 ^ (2 * k + 2)) (2 ^ k) (pow-pos k) (wide k 2 (omega arith)) (2 ^ (k + 3)) (step k 2) (step-wide k 2) j)
+      (laws.near shape (2 ^ (k + 3)) (step k 2) (step-wide k 2) j)
 
   -- no node is 0
   pub node-positive : (j : ℕ) → 0 < node k j
@@ -87,18 +82,18 @@ module _ (k : ℕ) where
 
   -- the word of node 0 is zero
   pub stored-word-first : storedWord k 0 ≡ 0
-  stored-word-first = rw node-at (laws.word-first (2 ^ (2 * k + 2)) (2 ^ k) (pow-pos k) (wide k 2 (omega arith)))
+  stored-word-first = rw node-at (laws.word-first shape)
 
   -- the word of a node between is what the node has above the leading one
   pub stored-word-between : (j : ℕ) → 0 < j → j < 2 ^ k → storedWord k j ≡ node k j - 2 ^ (2 * k + 2)
   stored-word-between j h l =
-      rw node-at (laws.word-between (2 ^ (2 * k + 2)) (2 ^ k) (pow-pos k) (wide k 2 (omega arith)) j h l)
+      rw node-at (laws.word-between shape j h l)
 
   -- the test by a product alone says whether a word is right
   pub judge-right : (j word : ℕ) → j < 2 ^ k → word < 2 ^ wordWidth k
       → roundsUp (2 ^ (3 * k + 3)) (2 ^ k + j) (decodeBelow (2 ^ wordWidth k) j word) ≡ isRight k j word
   judge-right j word h l =
-      rw (numerator k 2) (laws.judges (2 ^ (2 * k + 2)) (2 ^ k) (pow-pos k) (wide k 2 (omega arith)) j word h l)
+      rw (numerator k 2) (laws.judges shape j word h l)
 
   -- a word of more bits is wrong
   pub long-word-wrong : (j word : ℕ) → 2 ^ wordWidth k ≤ word → isRight k j word ≡ false
@@ -116,7 +111,7 @@ module _ (k : ℕ) where
   pub decode-right : (j word : ℕ) → j < 2 ^ k → isRight k j word ≡ true → decode k j word ≡ node k j
   decode-right j word h t =
       decode-before j word h
-      ∙ laws.right-decodes (2 ^ (2 * k + 2)) (2 ^ k) (pow-pos k) (wide k 2 (omega arith)) j word h
+      ∙ laws.right-decodes shape j word h
       (eqb-true word (storedWord k j) t ∙ ap (λ (c : ℕ). c % 2 ^ (2 * k + 2)) (node-at j))
       ∙ sym (node-at j)
 
@@ -138,36 +133,31 @@ module _ (k : ℕ) where
 
   -- nodes and words stand where k is a precision and j is in the table, and nowhere else
   pub node-there : inRange k ≡ true → (j : ℕ) → j ≤ 2 ^ k → nodeOr0 k j ≡ node k j
-  node-there r j h = picked (node k j) (inRange k) (leb j (2 ^ k)) r (le-leb j (2 ^ k) h)
+  node-there r j h = rw (r, le-leb j (2 ^ k) h)
 
   pub node-past : (j : ℕ) → 2 ^ k < j → nodeOr0 k j ≡ 0
-  node-past j h = unpicked-second (node k j) (inRange k) (leb j (2 ^ k)) (lt-leb j (2 ^ k) h)
+  node-past j h = rw (lt-leb j (2 ^ k) h, and-false)
 
   pub no-node : inRange k ≡ false → (j : ℕ) → nodeOr0 k j ≡ 0
-  no-node r j = unpicked-first (node k j) (inRange k) (leb j (2 ^ k)) r
-
-  pub word-there : inRange k ≡ true → (j : ℕ) → j < 2 ^ k → wordOr0 k j ≡ storedWord k j
-  word-there r j h = picked (storedWord k j) (inRange k) (ltb j (2 ^ k)) r (lt-ltb j (2 ^ k) h)
-
-  pub word-past : (j : ℕ) → 2 ^ k ≤ j → wordOr0 k j ≡ 0
-  word-past j h = unpicked-second (storedWord k j) (inRange k) (ltb j (2 ^ k)) (le-ltb j (2 ^ k) h)
-
-  pub no-word : inRange k ≡ false → (j : ℕ) → wordOr0 k j ≡ 0
-  no-word r j = unpicked-first (storedWord k j) (inRange k) (ltb j (2 ^ k)) r
+  no-node r j = rw r
 
   pub has-word : inRange k ≡ true → (j : ℕ) → j < 2 ^ k → hasWord k j ≡ true
-  has-word r j h = and-eq-true-iff (inRange k) (ltb j (2 ^ k)) .1 (r, lt-ltb j (2 ^ k) h)
+  has-word r j h = rw (r, lt-ltb j (2 ^ k) h)
+
+  pub no-word : (j : ℕ) → orderedWords k ≤ j → hasWord k j ≡ false
+  no-word j h = past-choice (inRange k) j (2 ^ k) h
+
+  pub word-there : inRange k ≡ true → (j : ℕ) → j < 2 ^ k → wordOr0 k j ≡ storedWord k j
+  word-there r j h = rw (has-word r j h)
+
+  pub word-past : (j : ℕ) → orderedWords k ≤ j → wordOr0 k j ≡ 0
+  word-past j h = rw (no-word j h)
 
   pub judged-there : inRange k ≡ true → (j word : ℕ) → j < 2 ^ k → isRight k j word ≡ true → judged k j word ≡ node k j
-  judged-there r j word h t = judged-right j word (and-eq-true-iff (hasWord k j) (isRight k j word) .1 (has-word r j h, t))
+  judged-there r j word h t = judged-right j word (rw (has-word r j h, t))
 
   pub judged-wrong : (j word : ℕ) → isRight k j word ≡ false → judged k j word ≡ 0
-  judged-wrong j word t = unpicked-second (decode k j word) (hasWord k j) (isRight k j word) t
+  judged-wrong j word t = rw (t, and-false)
 
-  pub judged-past : (j word : ℕ) → 2 ^ k ≤ j → judged k j word ≡ 0
-  judged-past j word h =
-      unpicked-first (decode k j word) (hasWord k j) (isRight k j word) (rw (le-ltb j (2 ^ k) h) (and-false (inRange k)))
-
-  pub none-judged : inRange k ≡ false → (j word : ℕ) → judged k j word ≡ 0
-  none-judged r j word =
-      unpicked-first (decode k j word) (hasWord k j) (isRight k j word) (ap (λ (a : Bool). a && ltb j (2 ^ k)) r)
+  pub judged-past : (j word : ℕ) → orderedWords k ≤ j → judged k j word ≡ 0
+  judged-past j word h = rw (no-word j h)

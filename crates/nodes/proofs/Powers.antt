@@ -3,9 +3,8 @@
 use mathlib.Core.Path.{_≡_, sym, ap, _∙_}
 use Prim.Native.Nat.{ℕ, _+_, _*_, _^_, _≤_, _<_}
 use native.Mathlib.Omega.{arith}
-use borrow.Author.Tests.{lt-ltb}
-use Rattle.bits.specs.Bits.{powerOr0}
-use lib.Pow.{pow-add, pow-mono, pow-lt}
+use lib.Pow.{pow-add, pow-pos, pow-mono, pow-lt}
+use Rattle.nodes.proofs.Laws.{Shape}
 
 -- 2 × 2^n
 pub double : (n : ℕ) → 2 ^ (n + 1) ≡ 2 * 2 ^ n
@@ -19,10 +18,10 @@ numerator k a =
     ∙ ap (λ (x : ℕ). x * 2 ^ k) (double (2 * k + a))
 
 -- the leading one is at least twice the number of words
-pub wide : (k a : ℕ) → 1 ≤ a → 2 * 2 ^ k ≤ 2 ^ (2 * k + a) + 1
-wide k a h =
+pub shape : (k a : ℕ) → 1 ≤ a → Shape (2 ^ (2 * k + a)) (2 ^ k)
+shape k a h =
     let l : k + 1 ≤ 2 * k + a = omega arith in
-    omega (arith, double k, pow-mono l)
+    record { some = pow-pos k; wide = omega (arith, double k, pow-mono l) }
 
 -- the bound of the difference of neighbours, times the number of words, is twice the leading one
 pub step : (k a : ℕ) → 2 ^ (k + (a + 1)) * 2 ^ k ≡ 2 * 2 ^ (2 * k + a)
@@ -34,7 +33,3 @@ step k a =
 -- and is above the number of words
 pub step-wide : (k a : ℕ) → 2 ^ k < 2 ^ (k + (a + 1))
 step-wide k a = pow-lt (omega arith)
-
--- a power below 2^64 has its place
-pub placed : (n : ℕ) → n < 64 → powerOr0 n ≡ 2 ^ n
-placed n h = rw (lt-ltb n 64 h)

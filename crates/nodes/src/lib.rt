@@ -13,53 +13,44 @@ use units::TableUnits;
 pub fn value(k: Precision, j: u32) -> TableUnits
     ensures { λ r. ⌜ r .0 ≡ nodeOr0 (k .0) j ⌝ }
 {
-    if !k.in_range() {
+    let count = k.word_count();
+    if count == 0 {
         return TableUnits(0);
     }
-    let p = k.0;
-    let count = words(p);
     if count < j {
         return TableUnits(0);
     }
-    TableUnits(quotient::rounded_up(numerator(p), count + j))
+    TableUnits(quotient::rounded_up(numerator(k.0), count + j))
 }
 
 // The word that is stored for node j at precision k, 0 where node j has none.
 pub fn word(k: Precision, j: u32) -> u64
     ensures { λ r. ⌜ r ≡ wordOr0 (k .0) j ⌝ }
 {
-    if !k.in_range() {
-        return 0;
-    }
-    let p = k.0;
-    let count = words(p);
+    let count = k.word_count();
     if count <= j {
         return 0;
     }
     if j == 0 {
         return 0;
     }
-    quotient::rounded_up(numerator(p), count + j) - lead(p)
+    value(k, j).0 - lead(k.0)
 }
 
 // The value of a word that is right at node j, 0 for a wrong word and where node j has none. It multiplies and does not divide.
 pub fn judge(k: Precision, j: u32, word: u64) -> TableUnits
     ensures { λ r. ⌜ r .0 ≡ judged (k .0) j word ⌝ }
 {
-    if !k.in_range() {
-        return TableUnits(0);
-    }
-    let p = k.0;
-    let count = words(p);
+    let count = k.word_count();
     if count <= j {
         return TableUnits(0);
     }
-    let one = lead(p);
+    let one = lead(k.0);
     if one <= word {
         return TableUnits(0);
     }
     let c = decoded(one, j, word);
-    if quotient::rounds_up(numerator(p), count + j, c as u32) {
+    if quotient::rounds_up(numerator(k.0), count + j, c as u32) {
         TableUnits(c)
     } else {
         TableUnits(0)
@@ -78,14 +69,6 @@ fn decoded(lead: u64, j: u32, word: u64) -> u64
         return lead + word;
     }
     2 * lead
-}
-
-// How many words a table has, 2^k.
-fn words(p: u32) -> u32
-    requires { ⌜ p ≤ 12 ⌝ }
-    ensures { λ r. ⌜ r ≡ 2 ^ p ⌝ }
-{
-    bits::power(p) as u32
 }
 
 // The leading one that a word leaves out, 2^(2k+2).

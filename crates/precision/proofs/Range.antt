@@ -1,29 +1,51 @@
--- The test of a precision's range, and the range in orders.
+-- The test of a precision's range, the range in orders, and what the count of the ordered words says of k.
 -- Assumes nothing.
-use mathlib.Core.Path.{_≡_}
-use mathlib.Core.Bool.{Bool, true, false, _&&_}
-use Prim.Native.Nat.{ℕ, _≤_}
+use mathlib.Core.Path.{_≡_, refl, sym, _∙_}
+use mathlib.Core.Bool.{Bool, true, false, cond, and-eq-true-iff}
+use Prim.Native.Nat.{ℕ, _^_, _≤_, _<_}
+use native.Mathlib.Nat.{not-suc-le-zero}
+use native.Mathlib.Omega.{arith}
 use lib.Dec.{leb}
+use lib.Pow.{pow-pos}
 use borrow.Author.Tests.{leb-true, le-leb}
 use Rattle.precision.specs.Precision.{inRange, least, greatest, wordCount, orderedWords}
-
-both-left : (a b : Bool) → (a && b) ≡ true → a ≡ true
-both-left true b e = cc
-both-left false b e = e
-
-both-right : (a b : Bool) → (a && b) ≡ true → b ≡ true
-both-right true b e = e
-both-right false b e = cc
 
 -- what the test passes is from 1 to 12
 pub in-range : (k : ℕ) → inRange k ≡ true → (1 ≤ k) × (k ≤ 12)
 in-range k e =
-    (leb-true 1 k (both-left (leb least k) (leb k greatest) e), leb-true k 12 (both-right (leb least k) (leb k greatest) e))
+    let both = and-eq-true-iff (leb least k) (leb k greatest) .0 e in
+    (leb-true 1 k (both .0), leb-true k 12 (both .1))
+
+-- and what is from 1 to 12 passes
+pub range-in : (k : ℕ) → 1 ≤ k → k ≤ 12 → inRange k ≡ true
+range-in k low high = simp (le-leb 1 k low, le-leb k 12 high)
 
 -- the ordered words of what passes are 2^k
 pub ordered-words : (k : ℕ) → inRange k ≡ true → orderedWords k ≡ wordCount k
 ordered-words k e = simp e
 
--- and what is from 1 to 12 passes
-pub range-in : (k : ℕ) → 1 ≤ k → k ≤ 12 → inRange k ≡ true
-range-in k low high = simp (le-leb 1 k low, le-leb k 12 high)
+chosen : (b : Bool) (n i : ℕ) → i < cond b n 0 → b ≡ true
+chosen true n i h = refl
+chosen false n i h = absurd (not-suc-le-zero h)
+
+-- count words are ordered at k, and word i is one of them
+pub record Counted (k i count : ℕ) : Type 0 where
+  pub ranged : inRange k ≡ true
+  pub small : k ≤ 12
+  pub words : count ≡ 2 ^ k
+  pub below : i < 2 ^ k
+
+-- where a word is ordered, k passes
+pub counted : (k i count : ℕ) → count ≡ orderedWords k → i < count → Counted k i count
+counted k i count e h =
+    let r : inRange k ≡ true = chosen (inRange k) (wordCount k) i (rw (sym e) h) in
+    let words : count ≡ 2 ^ k = e ∙ ordered-words k r in
+    record { ranged = r; small = in-range k r .1; words = words; below = omega (arith, words) }
+
+not-chosen : (b : Bool) (n : ℕ) → 0 < n → cond b n 0 ≡ 0 → b ≡ false
+not-chosen true n h e = absurd (omega (arith, e))
+not-chosen false n h e = refl
+
+-- where no word is ordered, k does not pass
+pub no-words : (k : ℕ) → orderedWords k ≡ 0 → inRange k ≡ false
+no-words k e = not-chosen (inRange k) (wordCount k) (pow-pos k) e

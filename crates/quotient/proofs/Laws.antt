@@ -1,19 +1,14 @@
 -- The laws of a quotient rounded up: the least whole number whose product with the divisor reaches the numerator.
 -- Assumes nothing.
-use mathlib.Core.Path.{_≡_, refl, sym}
-use mathlib.Core.Bool.{Bool, true, false, and-eq-true-iff}
+use mathlib.Core.Path.{_≡_, sym}
+use mathlib.Core.Bool.{and-eq-true-iff}
 use Prim.Native.Nat.{ℕ, suc, _+_, _-_, _*_, _/_, _≤_, _<_}
 use native.Mathlib.Nat.{div-zero, div-mul-le-self, lt-div-mul-add, div-lt-iff-lt-mul, div-eq-of-lt-le, mul-le-mul-left}
 use native.Mathlib.Omega.{arith}
 use lib.Dec.{ltb, eqb}
 use borrow.Author.Tests.{le-leb, lt-ltb, leb-true, ltb-true, eq-eqb, eqb-true}
+use Rattle.truth.proofs.Bools.{same}
 use Rattle.quotient.specs.Quotient.{roundedUp, roundsUp}
-
--- two tests that pass together are equal
-pub same : (a b : Bool) → (a ≡ true → b ≡ true) → (b ≡ true → a ≡ true) → a ≡ b
-same true b f g = sym (f refl)
-same false true f g = g refl
-same false false f g = refl
 
 -- a number that reaches M passes it by less than i exactly when it is below M + i
 pub passes-test : (p M i : ℕ) → M ≤ p → ltb (p - M) i ≡ ltb p (M + i)

@@ -58,7 +58,6 @@ pub fn word_bytes(k: Precision, image: &[u8], j: u32) -> &[u8]
     if number != 0 {
         return &image[..0];
     }
-    let p = k.0;
     let count = k.word_count();
     if count <= j {
         return &image[..0];

@@ -3,19 +3,18 @@
 --
 -- Here for the nodes and the image. Each theorem assumes no more than ranges of its numbers: that k is a precision, that a buffer is
 -- long enough, that its elements are bytes.
-use mathlib.Core.Path.{_≡_, _∙_, sym, ap}
+use mathlib.Core.Path.{_≡_}
 use mathlib.Core.Logic.{_↔_}
-use mathlib.Core.Bool.{true}
-use mathlib.Core.List.{List, [], _++_}
+use mathlib.Core.List.{List}
 use Prim.Native.Nat.{ℕ, _+_, _-_, _*_, _/_, _%_, _^_, _≤_, _<_}
 use lib.ListN.{length, take, getD}
-use Rattle.precision.specs.Precision.{imageLength, wordWidth}
+use Rattle.precision.specs.Precision.{imageLength}
 use Rattle.nodes.specs.Nodes.{node}
 use Rattle.nodes.proofs.Nodes.{node-first, node-last, node-above, node-below, node-falls}
 use Rattle.quotient.proofs.Laws.{reaches, least}
-use Rattle.packing.specs.Packing.{Bytes, bitAt, bitOfWord, firstByte, lastByte}
-use Rattle.answers.specs.Refusal.{Outcome, served}
-use Rattle.image.specs.Image.{image, wordOf, isWrong}
+use Rattle.packing.specs.Packing.{Bytes, bitAt, bitOfWord}
+use Rattle.answers.specs.Refusal.{served}
+use Rattle.image.specs.Image.{image, wordOf}
 use Rattle.image.specs.Calls.{buildLeaves, checkOutcome, nodeOutcome}
 use Rattle.image.proofs.Laws.{whole-bytes, image-length, right-front, front-right}
 use Rattle.statements.specs.Terms.{IsPrecision, IsLongEnough, IsRightAt}

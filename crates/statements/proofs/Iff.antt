@@ -1,6 +1,6 @@
 -- Tests as the facts that they stand for, and joined equivalences.
 -- Assumes nothing.
-use mathlib.Core.Path.{_≡_, refl, sym, _∙_, ap}
+use mathlib.Core.Path.{_≡_, refl}
 use mathlib.Core.Logic.{_↔_}
 use mathlib.Core.Bool.{Bool, true, false, not, _&&_}
 use mathlib.Core.List.{List}
@@ -9,11 +9,12 @@ use native.Mathlib.Omega.{arith}
 use lib.Dec.{T, ltb, ltb→lt, lt→ltb, nltb→le, not-T, T-not}
 use lib.Arith.{le→nltb}
 use borrow.Author.Tests.{lt-ltb}
+use Rattle.truth.proofs.Bools.{clash}
 use Rattle.precision.specs.Precision.{inRange, wordCount}
 use Rattle.precision.proofs.Range.{in-range, range-in}
-use Rattle.image.specs.Image.{isWrong, firstWrong, wordOf}
+use Rattle.image.specs.Image.{isWrong, firstWrong}
 use Rattle.image.proofs.Laws.{not-wrong, right-not-wrong}
-use Rattle.image.proofs.Lowest.{lowest-passes, lowest-before, lowest-le, lowest-none}
+use Rattle.image.proofs.Lowest.{lowest-passes, lowest-before, lowest-none}
 use Rattle.statements.specs.Terms.{IsPrecision, IsRightAt}
 
 pub joined : {A B C : Type 0} → A ↔ B → B ↔ C → A ↔ C
@@ -46,9 +47,6 @@ passes b e = rw e tt
 
 pub fails : (b : Bool) → b ≡ false → T (not b)
 fails b e = rw e tt
-
-clash : {b : Bool} → b ≡ true → b ≡ false → ⊥
-clash t f = let z : _≡_ {A = ℕ} 0 1 = cc in omega arith
 
 -- k is a precision
 pub is-precision : (k : ℕ) → T (not (not (inRange k))) ↔ IsPrecision k

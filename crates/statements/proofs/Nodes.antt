@@ -11,7 +11,6 @@ use lib.Dec.{ltb}
 use borrow.Author.Tests.{ltb-true, ltb-false, eq-eqb}
 use Rattle.nodes.specs.Nodes.{node, decode, storedWord}
 use Rattle.nodes.proofs.Nodes.{decode-right, decode-last, node-above, node-below, node-last, lead-double, stored-word-first, stored-word-between}
-use Rattle.answers.specs.Refusal.{served}
 use Rattle.image.specs.Image.{wordOf}
 use Rattle.statements.specs.Terms.{IsRightAt}
 

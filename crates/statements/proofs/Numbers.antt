@@ -11,7 +11,6 @@ use lib.ListN.{length}
 use lib.Dec.{T, eqb}
 use borrow.Author.Tests.{lt-ltb}
 use Rattle.precision.specs.Precision.{imageLength, wordCount}
-use Rattle.nodes.specs.Nodes.{node}
 use Rattle.answers.specs.Refusal.{Refusal, Outcome, outcome}
 use Rattle.answers.proofs.Order.{avoids, first, later}
 use Rattle.image.specs.Image.{isWrong, firstWrong}

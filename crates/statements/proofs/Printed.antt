@@ -2,18 +2,15 @@
 -- one line feed and no more. Other input counts as precision 0."
 --
 -- tableText is the definition that the promise of `table_text::print` cites; digits are bytes.
-use mathlib.Core.Path.{_≡_, _∙_, ap}
-use mathlib.Core.Logic.{_↔_}
-use mathlib.Core.Bool.{Bool, true, false}
+use mathlib.Core.Path.{_≡_}
+use mathlib.Core.Bool.{true}
 use mathlib.Core.List.{List, [], _∷_, _++_}
 use Prim.Native.Nat.{ℕ, _+_, _^_, _≤_, _<_}
 use lib.ListN.{length, take}
 use Rattle.decimal.specs.Decimal.{decimal, isDigits, decimalValue}
-use Rattle.precision.specs.Precision.{inRange}
 use Rattle.precision.proofs.Range.{range-in}
 use Rattle.table_text.specs.TableText.{precisionOf, lines, header, tableText, refusedText, longestText, lineFeed}
 use Rattle.table_text.proofs.LineLaws.{text-refused, text-table}
-use Rattle.table_text.proofs.Orders.{order-prefix}
 use Rattle.table_text.proofs.Sizes.{text-fits}
 use Rattle.statements.specs.Terms.{IsPrecision}
 use Rattle.statements.proofs.Orders

@@ -1,7 +1,7 @@
 -- `bits::low` meets its contract: what is left when the high bits are taken away.
 -- Assumes nothing.
 use mathlib.Core.Path.{sym}
-use Prim.Native.Nat.{_/_, _*_, _%_, _^_}
+use Prim.Native.Nat.{_/_, _*_, _^_}
 use native.Mathlib.Nat.{mod-eq-of-lt, mod-le, div-mul-le-self, div-add-mod'}
 use lib.Pow.{pow-mono}
 use native.Mathlib.Omega.{arith}

@@ -1,12 +1,12 @@
 -- `building::fill` meets its contract: each turn of its loop gives a byte or takes a word, by the laws of `Filling`.
 -- The measure counts each word to come as one bit more than its width, and each bit that waits as one.
 -- Assumes nothing.
-use mathlib.Core.Path.{_≡_, refl, sym, _∙_, ap}
-use Prim.Native.Nat.{ℕ, _+_, _-_, _*_, _/_, _%_, _^_, _≤_, _<_}
-use native.Mathlib.Nat.{mul-le-mul-right, mod-lt, suc-mul}
+use mathlib.Core.Path.{_≡_, _∙_, ap}
+use Prim.Native.Nat.{ℕ, _+_, _-_, _*_, _%_, _^_}
+use native.Mathlib.Nat.{mod-lt}
 use native.Mathlib.Omega.{arith}
 use lib.ListN.{length-set}
-use lib.Pow.{pow-pos, pow-mono}
+use lib.Pow.{pow-pos}
 use borrow.Author.Needs.{needs}
 use Rattle.quotient.specs.Quotient.{roundedUp}
 use Rattle.building.proofs.Filling.{Filling, start, give, take, finish, finish-part, has-room, part-has-room, kept, joined-fits}

@@ -1,18 +1,14 @@
 -- `nodes::judge` meets its contract: the test by a product says whether the word is right, and a right word decodes to the node.
 -- Assumes nothing.
 use mathlib.Core.Path.{_≡_, sym, ap, _∙_}
-use mathlib.Core.Bool.{true}
 use Prim.Native.Nat.{ℕ, _+_, _*_, _^_, _≤_, _<_}
 use native.Mathlib.Omega.{arith}
 use lib.Pow.{pow-mono}
 use borrow.Author.Needs.{needs}
-use borrow.Author.Tests.{not-true, not-false}
-use Rattle.precision.specs.Precision.{inRange}
+use Rattle.precision.proofs.Range.{Counted, counted}
 use Rattle.nodes.specs.Nodes.{decodeBelow, isRight}
 use Rattle.nodes.proofs.Laws.{decode-le}
 use Rattle.nodes.proofs.Nodes.{
-  in-range-le,
-  none-judged,
   judged-past,
   judged-wrong,
   judged-there,
@@ -24,79 +20,65 @@ use Rattle.nodes.proofs.Nodes.{
 use Rattle.nodes.proofs.judge.Statement.{statement}
 use Rattle.nodes.proofs.judge.Tie as tie
 
-in-range-requires : tie.Need-in-range-requires
-in-range-requires c κs = search needs
-
-ranged : (c : tie.Else1) → inRange (c .before .before .args .k .0) ≡ true
-ranged c = sym (c .before .in-range .ensures .0) ∙ not-false _ (c .if1 .left)
-
-small : (c : tie.Else1) → c .before .before .args .k .0 ≤ 12
-small c = in-range-le _ (ranged c)
-
-words-requires : tie.Need-words-requires
-words-requires c κs = small c
+word-count-requires : tie.Need-word-count-requires
+word-count-requires c κs = search needs
 
 returns : tie.Need-returns
 returns c =
     let a = c .before .before .args in
-    sym (none-judged (a .k .0) (sym (c .before .in-range .ensures .0) ∙ not-true _ (c .if1 .taken)) (a .j) (a .word))
+    sym (judged-past (a .k .0) (a .j) (a .word) (omega (arith, c .before .word-count .ensures)))
+
+-- node j has a word
+has : (c : tie.Else1) → Counted (c .before .before .args .k .0) (c .before .before .args .j) (c .before .word-count .result)
+has c = counted _ _ _ (c .before .word-count .ensures) (omega arith)
+
+lead-requires : tie.Need-lead-requires
+lead-requires c κs = has c .small
 
 returns-2 : tie.Need-returns-2
 returns-2 c =
     let a = c .before .before .before .before .args in
-    sym (judged-past (a .k .0) (a .j) (a .word) (omega (arith, c .before .words .ensures)))
-
--- node j has a word
-before-last : (c : tie.Else2) → c .before .before .before .before .args .j < 2 ^ c .before .before .before .before .args .k .0
-before-last c = omega (arith, c .before .words .ensures)
-
-lead-requires : tie.Need-lead-requires
-lead-requires c κs = small (c .before .before)
-
-returns-3 : tie.Need-returns-3
-returns-3 c =
-    let a = c .before .before .before .before .before .before .args in
     let long : 2 ^ (2 * a .k .0 + 2) ≤ a .word = omega (arith, c .before .lead .ensures) in
     sym (judged-wrong (a .k .0) (a .j) (a .word) (long-word-wrong (a .k .0) (a .j) (a .word) long))
 
 -- the word has no more bits than it may have
 short :
-    (c : tie.Else3) →
-    c .before .before .before .before .before .before .args .word
-    < 2 ^ (2 * c .before .before .before .before .before .before .args .k .0 + 2)
+    (c : tie.Else2) →
+    c .before .before .before .before .args .word
+    < 2 ^ (2 * c .before .before .before .before .args .k .0 + 2)
 short c = omega (arith, c .before .lead .ensures)
 
 -- and the leading one is far below 2^32
-lead-small : (c : tie.Else3) → 2 ^ (2 * c .before .before .before .before .before .before .args .k .0 + 2) ≤ 2 ^ 26
+lead-small : (c : tie.Else2) → 2 ^ (2 * c .before .before .before .before .args .k .0 + 2) ≤ 2 ^ 26
 lead-small c =
-    let h = small (c .before .before .before .before) in
-    pow-mono {i = 2 * c .before .before .before .before .before .before .args .k .0 + 2} {j = 26} (omega (arith, h))
+    let h = has (c .before .before) .small in
+    pow-mono {i = 2 * c .before .before .before .before .args .k .0 + 2} {j = 26} (omega (arith, h))
 
 decoded-requires : tie.Need-decoded-requires
 decoded-requires c κs = omega (arith, c .before .lead .ensures, lead-small c, short c)
 
 numerator-requires : tie.Need-numerator-requires
-numerator-requires c κs = small (c .before .before .before .before .before)
+numerator-requires c κs = has (c .before .before .before) .small
 
 add-rounds-up : tie.Need-add-rounds-up
 add-rounds-up c =
-    let h = small (c .before .before .before .before .before .before) in
-    omega (arith, c .before .before .before .before .before .words .ensures, pow-mono h)
+    let known = has (c .before .before .before .before) in
+    omega (arith, known .words, pow-mono (known .small))
 
 -- what the word stands for
 value :
     (c : tie.After-decoded) →
     c .decoded .result
-    ≡ decodeBelow (2 ^ (2 * c .before .before .before .before .before .before .before .args .k .0 + 2))
-    (c .before .before .before .before .before .before .before .args .j)
-    (c .before .before .before .before .before .before .before .args .word)
+    ≡ decodeBelow (2 ^ (2 * c .before .before .before .before .before .args .k .0 + 2))
+    (c .before .before .before .before .before .args .j)
+    (c .before .before .before .before .before .args .word)
 value c =
-    let a = c .before .before .before .before .before .before .before .args in
+    let a = c .before .before .before .before .before .args in
     c .decoded .ensures ∙ ap (λ (one : ℕ). decodeBelow one (a .j) (a .word)) (c .before .before .lead .ensures)
 
 cast-rounds-up : tie.Need-cast-rounds-up
 cast-rounds-up c =
-    let a = c .before .before .before .before .before .before .before .before .args in
+    let a = c .before .before .before .before .before .before .args in
     let one = 2 ^ (2 * a .k .0 + 2) in
     omega (
       arith,
@@ -112,44 +94,42 @@ rounds-up-requires c κs = search needs
 tested :
     (c : tie.After-rounds-up) →
     c .rounds-up .result
-    ≡ isRight (c .before .before .before .before .before .before .before .before .before .args .k .0)
-    (c .before .before .before .before .before .before .before .before .before .args .j)
-    (c .before .before .before .before .before .before .before .before .before .args .word)
+    ≡ isRight (c .before .before .before .before .before .before .before .args .k .0)
+    (c .before .before .before .before .before .before .before .args .j)
+    (c .before .before .before .before .before .before .before .args .word)
 tested c =
-    let a = c .before .before .before .before .before .before .before .before .before .args in
-    rw (c .rounds-up .ensures, c .before .numerator .ensures, c .before .before .before .before .before .before .words .ensures, value (c .before .before))
-    (judge-right (a .k .0) (a .j) (a .word) (before-last (c .before .before .before .before .before)) (short (c .before .before .before)))
+    let a = c .before .before .before .before .before .before .before .args in
+    rw (c .rounds-up .ensures, c .before .numerator .ensures, has (c .before .before .before .before .before) .words, value (c .before .before))
+    (judge-right (a .k .0) (a .j) (a .word) (has (c .before .before .before .before .before) .below) (short (c .before .before .before)))
 
-returns-4 : tie.Need-returns-4
-returns-4 c =
-    let a = c .before .before .before .before .before .before .before .before .before .before .args in
-    let h = before-last (c .before .before .before .before .before .before) in
-    let r = ranged (c .before .before .before .before .before .before .before .before) in
-    let t = sym (tested (c .before)) ∙ c .if4 .taken in
+returns-3 : tie.Need-returns-3
+returns-3 c =
+    let a = c .before .before .before .before .before .before .before .before .args in
+    let known = has (c .before .before .before .before .before .before) in
+    let h = known .below in
+    let t = sym (tested (c .before)) ∙ c .if3 .taken in
     value (c .before .before .before)
     ∙ sym (decode-before (a .k .0) (a .j) (a .word) h)
     ∙ decode-right (a .k .0) (a .j) (a .word) h t
-    ∙ sym (judged-there (a .k .0) r (a .j) (a .word) h t)
+    ∙ sym (judged-there (a .k .0) (known .ranged) (a .j) (a .word) h t)
 
-returns-5 : tie.Need-returns-5
-returns-5 c =
-    let a = c .before .before .before .before .before .before .before .before .before .before .args in
-    sym (judged-wrong (a .k .0) (a .j) (a .word) (sym (tested (c .before)) ∙ c .if4 .left))
+returns-4 : tie.Need-returns-4
+returns-4 c =
+    let a = c .before .before .before .before .before .before .before .before .args in
+    sym (judged-wrong (a .k .0) (a .j) (a .word) (sym (tested (c .before)) ∙ c .if3 .left))
 
 pub judge-spec : {M : Type 1} → statement M
 judge-spec =
     tie.close
     (tie.spec
-    in-range-requires
+    word-count-requires
     returns
-    words-requires
-    returns-2
     lead-requires
-    returns-3
+    returns-2
     decoded-requires
     numerator-requires
     add-rounds-up
     cast-rounds-up
     rounds-up-requires
-    returns-4
-    returns-5)
+    returns-3
+    returns-4)

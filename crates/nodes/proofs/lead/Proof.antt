@@ -4,7 +4,7 @@ use mathlib.Core.Path.{_∙_}
 use Prim.Native.Nat.{_+_, _*_}
 use native.Mathlib.Omega.{arith}
 use borrow.Author.Needs.{needs}
-use Rattle.nodes.proofs.Powers.{placed}
+use Rattle.bits.proofs.Laws.{power-fits}
 use Rattle.nodes.proofs.lead.Statement.{statement}
 use Rattle.nodes.proofs.lead.Tie as tie
 
@@ -18,7 +18,7 @@ power-requires : tie.Need-power-requires
 power-requires c κs = search needs
 
 returns : tie.Need-returns
-returns c = c .power .ensures ∙ placed (2 * c .before .args .p + 2) (omega arith)
+returns c = c .power .ensures ∙ power-fits (2 * c .before .args .p + 2) (omega arith)
 
 pub lead-spec : {M : Type 1} → statement M
 lead-spec = tie.close (tie.spec mul-power add-power power-requires returns)

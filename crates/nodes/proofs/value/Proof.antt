@@ -1,62 +1,53 @@
 -- `nodes::value` meets its contract: each return answers the tests that led there.
 -- Assumes nothing.
-use mathlib.Core.Path.{_≡_, sym, _∙_}
-use mathlib.Core.Bool.{true}
-use Prim.Native.Nat.{_≤_}
+use mathlib.Core.Path.{sym, _∙_}
 use native.Mathlib.Omega.{arith}
 use lib.Pow.{pow-mono}
 use borrow.Author.Needs.{needs}
-use borrow.Author.Tests.{not-true, not-false}
-use Rattle.precision.specs.Precision.{inRange}
-use Rattle.nodes.proofs.Nodes.{in-range-le, no-node, node-past, node-there}
+use Rattle.precision.proofs.Range.{Counted, counted, no-words}
+use Rattle.nodes.proofs.Nodes.{no-node, node-past, node-there}
 use Rattle.nodes.proofs.value.Statement.{statement}
 use Rattle.nodes.proofs.value.Tie as tie
 
-in-range-requires : tie.Need-in-range-requires
-in-range-requires c κs = search needs
-
-ranged : (c : tie.Else1) → inRange (c .before .before .args .k .0) ≡ true
-ranged c = sym (c .before .in-range .ensures .0) ∙ not-false _ (c .if1 .left)
-
-small : (c : tie.Else1) → c .before .before .args .k .0 ≤ 12
-small c = in-range-le _ (ranged c)
-
-words-requires : tie.Need-words-requires
-words-requires c κs = small c
+word-count-requires : tie.Need-word-count-requires
+word-count-requires c κs = search needs
 
 returns : tie.Need-returns
 returns c =
     let a = c .before .before .args in
-    sym (no-node (a .k .0) (sym (c .before .in-range .ensures .0) ∙ not-true _ (c .if1 .taken)) (a .j))
+    sym (no-node (a .k .0) (no-words (a .k .0) (sym (c .before .word-count .ensures) ∙ c .if1 .taken)) (a .j))
+
+-- precision k has words
+has : (c : tie.Else1) → Counted (c .before .before .args .k .0) 0 (c .before .word-count .result)
+has c = counted _ _ _ (c .before .word-count .ensures) (omega (arith, c .if1 .left))
 
 returns-2 : tie.Need-returns-2
 returns-2 c =
-    let a = c .before .before .before .before .args in
-    sym (node-past (a .k .0) (a .j) (omega (arith, c .before .words .ensures)))
+    let a = c .before .before .before .args in
+    sym (node-past (a .k .0) (a .j) (omega (arith, has (c .before) .words)))
 
 numerator-requires : tie.Need-numerator-requires
-numerator-requires c κs = small (c .before .before)
+numerator-requires c κs = has (c .before) .small
 
 add-rounded-up : tie.Need-add-rounded-up
-add-rounded-up c = omega (arith, c .before .before .words .ensures, pow-mono (small (c .before .before .before)))
+add-rounded-up c = omega (arith, has (c .before .before) .words, pow-mono (has (c .before .before) .small))
 
 rounded-up-requires : tie.Need-rounded-up-requires
 rounded-up-requires c κs = search needs
 
 returns-3 : tie.Need-returns-3
 returns-3 c =
-    let a = c .before .before .before .before .before .before .args in
-    let words = c .before .before .before .words .ensures in
-    rw (c .rounded-up .ensures, c .before .numerator .ensures, words)
-    (sym (node-there (a .k .0) (ranged (c .before .before .before .before)) (a .j) (omega (arith, words))))
+    let a = c .before .before .before .before .before .args in
+    let count = has (c .before .before .before) .words in
+    rw (c .rounded-up .ensures, c .before .numerator .ensures, count)
+    (sym (node-there (a .k .0) (has (c .before .before .before) .ranged) (a .j) (omega (arith, count))))
 
 pub value-spec : {M : Type 1} → statement M
 value-spec =
     tie.close
     (tie.spec
-    in-range-requires
+    word-count-requires
     returns
-    words-requires
     returns-2
     numerator-requires
     add-rounded-up

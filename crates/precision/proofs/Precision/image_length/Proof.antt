@@ -4,7 +4,6 @@ use mathlib.Core.Path.{refl, _≡_, _∙_, ap}
 use mathlib.Core.List.{List, [], _∷_}
 use Prim.Native.Nat.{ℕ, _+_, _-_}
 use native.Mathlib.Omega.{arith}
-use lib.ListN.{getD}
 use borrow.Author.Needs.{needs}
 use borrow.Author.Tests.{le-leb, lt-leb}
 use Rattle.tables.proofs.Table.{entry}
@@ -12,7 +11,7 @@ use Rattle.precision.specs.Precision.{imageLength}
 use Rattle.precision.proofs.Precision.image_length.Statement.{statement}
 use Rattle.precision.proofs.Precision.image_length.Tie as tie
 
--- the constant list, as the source has it
+-- the constant list, as the source has it (tests/tables.py writes both)
 lengths : List ℕ
 lengths = 1 ∷ 3 ∷ 8 ∷ 20 ∷ 48 ∷ 112 ∷ 256 ∷ 576 ∷ 1280 ∷ 2816 ∷ 6144 ∷ 13312 ∷ []
 

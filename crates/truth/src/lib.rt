@@ -1,0 +1,1 @@
+// Tests and what they say: no code, a few laws of Bool that the proofs of several crates cite (proofs/Bools.antt).
