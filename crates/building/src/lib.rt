@@ -53,7 +53,6 @@ pub fn build(k: Precision, image: &mut [u8]) -> Done
     ensures { λ r. ⌜ r ≡ done (buildOutcome (k .0) (now (image .entry))) ⌝ }
     ensures { λ r. ⌜ now (image .exit) ≡ buildLeaves (k .0) (now (image .entry)) ⌝ }
 {
-    let p = k.0;
     let number = image::broken_limit(k, image.len());
     if number != 0 {
         return Done {
@@ -64,8 +63,7 @@ pub fn build(k: Precision, image: &mut [u8]) -> Done
     }
     let count = k.word_count();
     let width = k.word_width() as u32;
-    let numerator = bits::power(3 * p + 3);
-    fill(image, width, count, numerator, count);
+    fill(image, width, count, nodes::numerator(k), count);
     Done {
         number: 0,
         place: 0,

@@ -3,13 +3,14 @@
 use mathlib.Core.Path.{_≡_, refl}
 use mathlib.Core.Bool.{Bool, true, false, cond, not, _||_, true≢false}
 use mathlib.Core.List.{List, _∷_}
-use Prim.Native.Nat.{ℕ, _≤_, _^_}
+use Prim.Native.Nat.{ℕ, _+_, _*_, _^_, _≤_}
 use native.Mathlib.Omega.{arith}
 use lib.Dec.{ltb}
 use lib.ListN.{length}
 use borrow.Author.Tests.{ltb-false, le-ltb}
 use Rattle.precision.specs.Precision.{inRange, imageLength, orderedWords}
 use Rattle.precision.proofs.Range.{in-range, range-in, ordered-words}
+use Rattle.nodes.specs.Nodes.{numeratorOr0, leadOr0}
 use Rattle.answers.specs.Refusal.{Refusal, Outcome, outcome}
 use Rattle.image.specs.Refusals.{precisionRefusal, bufferRefusal, brokenLimit}
 use Rattle.image.specs.Calls.{noImage}
@@ -24,6 +25,8 @@ pub record Kept (k : ℕ) (s : List ℕ) : Type 0 where
   pub high : k ≤ 12
   pub long : imageLength k ≤ length s
   pub words : orderedWords k ≡ 2 ^ k
+  pub numerator : numeratorOr0 k ≡ 2 ^ (3 * k + 3)
+  pub lead : leadOr0 k ≡ 2 ^ (2 * k + 2)
 
 -- by the tests of the two limits
 abbrev numberOf : Bool → Bool → ℕ
@@ -76,6 +79,8 @@ module _ (k : ℕ) (s : List ℕ) where
         high = in-range k (e .0) .1;
         long = ltb-false (length s) (imageLength k) (e .1);
         words = ordered-words k (e .0);
+        numerator = rw (e .0);
+        lead = rw (e .0);
       }
 
   pub limit-image : brokenLimit k (length s) ≡ 0 → noImage k s ≡ false

@@ -4,11 +4,12 @@ use Prim.Native.Nat.{ℕ}
 use mathlib.Core.Bool.{Bool, cond, not, _||_}
 use mathlib.Core.List.{List, [], _∷_}
 use lib.Dec.{ltb}
+use lib.ListN.{length}
 use Rattle.precision.specs.Precision.{wordCount}
 use Rattle.nodes.specs.Nodes.{decode}
 use Rattle.answers.specs.Refusal.{Refusal, Outcome, outcome}
 use Rattle.image.specs.Image.{builtBuffer, wordOf, wordPart}
-use Rattle.image.specs.Refusals.{precisionRefusal, bufferRefusal, nodeRefusal, imageRefusal, wordRefusal}
+use Rattle.image.specs.Refusals.{isOutOfRange, isTooShort, precisionRefusal, bufferRefusal, nodeRefusal, imageRefusal, wordRefusal}
 
 -- the refusals of the builder, in checking order: 1 and 2
 abbrev pub buildRefusals : ℕ → List ℕ → List Refusal
@@ -20,7 +21,7 @@ buildOutcome k s = outcome (buildRefusals k s) 0
 
 -- refusal 1 or 2 applies
 abbrev pub noImage : ℕ → List ℕ → Bool
-noImage k s = precisionRefusal k .applies || bufferRefusal k s .applies
+noImage k s = isOutOfRange k || isTooShort k (length s)
 
 -- the buffer after the builder: as found where the call is turned back
 abbrev pub buildLeaves : ℕ → List ℕ → List ℕ

@@ -3,6 +3,7 @@
 use Prim.Native.Nat.{ℕ}
 use mathlib.Core.Bool.{Bool, not}
 use mathlib.Core.List.{List, _++_}
+use lib.Dec.{eqb}
 use lib.ListN.{take, drop}
 use Rattle.precision.specs.Precision.{wordWidth, wordCount, imageLength}
 use Rattle.image.specs.Lowest.{lowest}
@@ -25,13 +26,21 @@ builtBuffer k s = image k ++ afterImage k s
 abbrev pub wordOf : ℕ → List ℕ → ℕ → ℕ
 wordOf k s j = wordAt (wordWidth k) s j
 
+-- word j of w bits of a buffer is not f's
+abbrev pub isWrongWord : ℕ → (ℕ → ℕ) → List ℕ → ℕ → Bool
+isWrongWord w f s j = not (eqb (wordAt w s j) (f j))
+
+-- the lowest of the first n words of a buffer that is not f's, and n where none is
+abbrev pub firstWrongWord : ℕ → (ℕ → ℕ) → ℕ → List ℕ → ℕ
+firstWrongWord w f n s = lowest (isWrongWord w f s) n
+
 -- the word that a buffer holds for node j is not the construction's
 abbrev pub isWrong : ℕ → List ℕ → ℕ → Bool
 isWrong k s j = not (isRight k j (wordOf k s j))
 
 -- the lowest node whose word is wrong, and 2^k where none is
 abbrev pub firstWrong : ℕ → List ℕ → ℕ
-firstWrong k s = lowest (isWrong k s) (wordCount k)
+firstWrong k s = firstWrongWord (wordWidth k) (storedWord k) (wordCount k) s
 
 -- the part of a buffer that holds the word of node j
 abbrev pub wordPart : ℕ → List ℕ → ℕ → List ℕ

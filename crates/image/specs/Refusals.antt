@@ -1,7 +1,7 @@
 -- The refusals of the calls on an image, each a definition of its own (document 01, "Turned back, in checking order").
 -- Assumes nothing.
 use Prim.Native.Nat.{ℕ, _^_}
-use mathlib.Core.Bool.{cond, not, _&&_}
+use mathlib.Core.Bool.{Bool, cond, not, _&&_}
 use mathlib.Core.List.{List}
 use lib.Dec.{ltb}
 use lib.ListN.{length}
@@ -9,17 +9,25 @@ use Rattle.precision.specs.Precision.{inRange, imageLength, wordCount}
 use Rattle.answers.specs.Refusal.{Refusal}
 use Rattle.image.specs.Image.{isWrong, firstWrong}
 
+-- the precision is below 1 or above 12
+abbrev pub isOutOfRange : ℕ → Bool
+isOutOfRange k = not (inRange k)
+
+-- n bytes are fewer than the image length for k
+abbrev pub isTooShort : ℕ → ℕ → Bool
+isTooShort k n = ltb n (imageLength k)
+
 -- 1: the precision is below 1 or above 12
 abbrev pub precisionRefusal : ℕ → Refusal
-precisionRefusal k = record { applies = not (inRange k); number = 1; place = 0 }
+precisionRefusal k = record { applies = isOutOfRange k; number = 1; place = 0 }
 
 -- 2: the image buffer is shorter than the image length for k
 abbrev pub bufferRefusal : ℕ → List ℕ → Refusal
-bufferRefusal k s = record { applies = ltb (length s) (imageLength k); number = 2; place = 0 }
+bufferRefusal k s = record { applies = isTooShort k (length s); number = 2; place = 0 }
 
--- the number of the limit of k and of a buffer of n bytes that is broken first, 0 where none is
+-- the number of the first of these two that applies to k and a buffer of n bytes, 0 where neither does
 abbrev pub brokenLimit : ℕ → ℕ → ℕ
-brokenLimit k n = cond (not (inRange k)) 1 (cond (ltb n (imageLength k)) 2 0)
+brokenLimit k n = cond (isOutOfRange k) 1 (cond (isTooShort k n) 2 0)
 
 -- 3: the node number is above 2^k
 abbrev pub nodeRefusal : ℕ → ℕ → Refusal

@@ -1,16 +1,17 @@
 -- The laws of the nodes over plain numbers: K nodes have words, and H is the leading one that a word leaves out. The numerator is
 -- 2 × H × K. At K = 2^k and H = 2^(2k+a) they are the laws of a table with a guard bits.
 -- Assumes nothing.
-use mathlib.Core.Path.{_≡_, sym, ap, _∙_}
-use Prim.Native.Nat.{ℕ, zero, suc, _+_, _-_, _*_, _%_, _≤_, _<_}
+use mathlib.Core.Path.{_≡_, refl, sym, ap, _∙_}
+use mathlib.Core.Bool.{Bool, true, false, cond}
+use Prim.Native.Nat.{ℕ, zero, suc, _+_, _-_, _*_, _%_, _^_, _≤_, _<_}
 use native.Mathlib.Nat.{le-refl, zero-lt-suc, not-suc-le-zero, add-assoc, mul-le-mul, mul-le-mul-left, mul-le-mul-right, mod-eq-of-lt, mod-eq-sub-mod, mul-mod-left, add-mod-left, lt-of-not-le}
 use native.Mathlib.Omega.{arith}
 use lib.Dec.{eqb}
-use borrow.Author.Tests.{eq-eqb, ne-eqb, eqb-true}
+use borrow.Author.Tests.{eq-eqb, ne-eqb, eqb-true, lt-ltb}
 use Rattle.truth.proofs.Bools.{same}
 use Rattle.quotient.specs.Quotient.{roundedUp, roundsUp}
 use Rattle.quotient.proofs.Laws.{reaches, passes-less, unique, rounds-up}
-use Rattle.nodes.specs.Nodes.{decodeBelow}
+use Rattle.nodes.specs.Nodes.{decodeUnder, judged}
 
 -- what is asked of H and K
 pub record Shape (H K : ℕ) : Type 0 where
@@ -22,13 +23,13 @@ abbrev pub nodeAt : ℕ → ℕ → ℕ → ℕ
 nodeAt H K j = roundedUp (2 * H * K) (K + j)
 
 -- a word decodes to a value that has the word as its rest
-pub decode-rest : (H j word : ℕ) → word < H → decodeBelow H j word % H ≡ word
+pub decode-rest : (H j word : ℕ) → word < H → decodeUnder H j word % H ≡ word
 decode-rest H zero zero h = mul-mod-left 2 H
 decode-rest H zero (suc w) h = rw (ne-eqb (suc w) 0 (λ e. omega (arith, e))) (add-mod-left H (suc w) ∙ mod-eq-of-lt h)
 decode-rest H (suc j) word h = rw (ne-eqb (suc j) 0 (λ e. omega (arith, e))) (add-mod-left H word ∙ mod-eq-of-lt h)
 
 -- and to at most twice the leading one
-pub decode-le : (H j word : ℕ) → word < H → decodeBelow H j word ≤ 2 * H
+pub decode-le : (H j word : ℕ) → word < H → decodeUnder H j word ≤ 2 * H
 decode-le H zero zero h = le-refl (2 * H)
 decode-le H zero (suc w) h = rw (ne-eqb (suc w) 0 (λ e. omega (arith, e))) (omega arith)
 decode-le H (suc j) word h = rw (ne-eqb (suc j) 0 (λ e. omega (arith, e))) (omega arith)
@@ -109,23 +110,41 @@ module _ {H K : ℕ} (shape : Shape H K) where
       mod-eq-sub-mod (omega arith) ∙ mod-eq-of-lt (omega arith)
 
   -- the word of a node decodes to the node
-  pub decodes : (j : ℕ) → j < K → decodeBelow H j (nodeAt H K j % H) ≡ nodeAt H K j
+  pub decodes : (j : ℕ) → j < K → decodeUnder H j (nodeAt H K j % H) ≡ nodeAt H K j
   decodes zero h = rw word-first (sym first)
   decodes (suc j) h =
       let a : H < nodeAt H K (suc j) = above (suc j) h in
       rw (ne-eqb (suc j) 0 (λ e. omega (arith, e)), word-between (suc j) (zero-lt-suc j) h) (omega arith)
 
   -- a right word decodes to the node
-  pub right-decodes : (j word : ℕ) → j < K → word ≡ nodeAt H K j % H → decodeBelow H j word ≡ nodeAt H K j
+  pub right-decodes : (j word : ℕ) → j < K → word ≡ nodeAt H K j % H → decodeUnder H j word ≡ nodeAt H K j
   right-decodes j word h e = rw e (decodes j h)
 
   -- the test by a product alone says whether a word is the node's
-  pub judges : (j word : ℕ) → j < K → word < H → roundsUp (2 * H * K) (K + j) (decodeBelow H j word) ≡ eqb word (nodeAt H K j % H)
+  pub judges : (j word : ℕ) → j < K → word < H → roundsUp (2 * H * K) (K + j) (decodeUnder H j word) ≡ eqb word (nodeAt H K j % H)
   judges j word h l =
-      rounds-up (2 * H * K) (K + j) (omega arith) (decodeBelow H j word)
+      rounds-up (2 * H * K) (K + j) (omega arith) (decodeUnder H j word)
       ∙ same _ _
       (λ t. eq-eqb word (nodeAt H K j % H) (sym (decode-rest H j word l) ∙ ap (λ (x : ℕ). x % H) (eqb-true _ _ t)))
-      (λ t. eq-eqb (decodeBelow H j word) (nodeAt H K j) (right-decodes j word h (eqb-true word (nodeAt H K j % H) t)))
+      (λ t. eq-eqb (decodeUnder H j word) (nodeAt H K j) (right-decodes j word h (eqb-true word (nodeAt H K j % H) t)))
+
+  -- so a word is judged to be the node, or 0
+  pub judges-value : (j word : ℕ) → j < K → word < H → 2 * H < 2 ^ 32 → 2 * K < 2 ^ 32 → judged (2 * H * K) K H j word ≡ cond (eqb word (nodeAt H K j % H)) (nodeAt H K j) 0
+  judges-value j word h l small few =
+      rw (
+        lt-ltb (decodeUnder H j word) (2 ^ 32) (omega (arith, decode-le H j word l)),
+        lt-ltb (K + j) (2 ^ 32) (omega arith),
+        judges j word h l,
+      )
+      (by (eqb word (nodeAt H K j % H)) refl)
+    where
+      by : (b : Bool) → eqb word (nodeAt H K j % H) ≡ b → cond b (decodeUnder H j word) 0 ≡ cond b (nodeAt H K j) 0
+      by true e = right-decodes j word h (eqb-true word (nodeAt H K j % H) e)
+      by false e = refl
+
+  -- no node is 0
+  pub positive : (j : ℕ) → j < K → 0 < nodeAt H K j
+  positive j h = omega (arith, above j h)
 
   -- neighbours differ by less than D, where D × K is twice the leading one (document 002, Lemma 1)
   pub near : (D : ℕ) → D * K ≡ 2 * H → K < D → (j : ℕ) → nodeAt H K j < nodeAt H K (j + 1) + D

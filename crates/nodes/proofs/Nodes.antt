@@ -6,24 +6,16 @@ use Prim.Native.Nat.{ℕ, _+_, _-_, _*_, _%_, _^_, _≤_, _<_}
 use native.Mathlib.Nat.{mod-lt, lt-of-not-le, zero-mul}
 use native.Mathlib.Omega.{arith}
 use lib.Dec.{ltb, eqb}
-use lib.Pow.{pow-pos}
+use lib.Pow.{pow-pos, pow-lt}
 use borrow.Author.Tests.{eq-eqb, ne-eqb, eqb-true, ltb-true, le-leb, lt-leb, lt-ltb, le-ltb}
 use Rattle.precision.specs.Precision.{wordWidth, inRange, orderedWords}
 use Rattle.quotient.specs.Quotient.{roundedUp, roundsUp}
 use Rattle.quotient.proofs.Laws.{reaches, antitone}
-use Rattle.nodes.specs.Nodes.{node, storedWord, decodeBelow, decode, hasWord, isRight, judged, nodeOr0, wordOr0}
+use Rattle.nodes.specs.Nodes.{node, storedWord, decodeUnder, decode, isRight, judged, nodeOr0}
 use Rattle.nodes.proofs.Laws as laws
 use Rattle.nodes.proofs.Laws.{Shape, nodeAt}
 use Rattle.nodes.proofs.Powers as powers
 use Rattle.nodes.proofs.Powers.{numerator, double, step, step-wide}
-
-past-choice : (b : Bool) (j n : ℕ) → cond b n 0 ≤ j → (b && ltb j n) ≡ false
-past-choice true j n h = le-ltb j n h
-past-choice false j n h = refl
-
-or-zero : (b : Bool) (x : ℕ) → (b ≡ true → 0 < x) → eqb (cond b x 0) 0 ≡ not b
-or-zero true x h = ne-eqb x 0 (λ e. omega (arith, e, h refl))
-or-zero false x h = refl
 
 module _ (k : ℕ) where
   shape : Shape (2 ^ (2 * k + 2)) (2 ^ k)
@@ -91,7 +83,7 @@ module _ (k : ℕ) where
 
   -- the test by a product alone says whether a word is right
   pub judge-right : (j word : ℕ) → j < 2 ^ k → word < 2 ^ wordWidth k
-      → roundsUp (2 ^ (3 * k + 3)) (2 ^ k + j) (decodeBelow (2 ^ wordWidth k) j word) ≡ isRight k j word
+      → roundsUp (2 ^ (3 * k + 3)) (2 ^ k + j) (decodeUnder (2 ^ wordWidth k) j word) ≡ isRight k j word
   judge-right j word h l =
       rw (numerator k 2) (laws.judges shape j word h l)
 
@@ -104,7 +96,7 @@ module _ (k : ℕ) where
   decode-last word = rw (eq-eqb (2 ^ k) (2 ^ k) refl) (sym node-last)
 
   -- before node 2^k a word decodes below the leading one
-  pub decode-before : (j word : ℕ) → j < 2 ^ k → decode k j word ≡ decodeBelow (2 ^ wordWidth k) j word
+  pub decode-before : (j word : ℕ) → j < 2 ^ k → decode k j word ≡ decodeUnder (2 ^ wordWidth k) j word
   decode-before j word h = rw (ne-eqb j (2 ^ k) (λ e. omega (arith, e)))
 
   -- a right word decodes to the node
@@ -115,21 +107,13 @@ module _ (k : ℕ) where
       (eqb-true word (storedWord k j) t ∙ ap (λ (c : ℕ). c % 2 ^ (2 * k + 2)) (node-at j))
       ∙ sym (node-at j)
 
-  -- a right word where there is one decodes to the node
-  decode-judged : (j word : ℕ) → (hasWord k j && isRight k j word) ≡ true → decode k j word ≡ node k j
-  decode-judged j word t =
-      let both = and-eq-true-iff (hasWord k j) (isRight k j word) .0 t in
-      let has = and-eq-true-iff (inRange k) (ltb j (2 ^ k)) .0 (both .0) in
-      decode-right j word (ltb-true j (2 ^ k) (has .1)) (both .1)
-
-  -- a right word is judged to be the node
-  pub judged-right : (j word : ℕ) → (hasWord k j && isRight k j word) ≡ true → judged k j word ≡ node k j
-  judged-right j word t = rw t (decode-judged j word t)
-
-  -- and any other is judged to be 0, which no node is
-  pub judged-zero : (j word : ℕ) → eqb (judged k j word) 0 ≡ not (hasWord k j && isRight k j word)
-  judged-zero j word =
-      or-zero (hasWord k j && isRight k j word) (decode k j word) (λ t. rw (decode-judged j word t) (node-positive j))
+  -- the word of node j is judged to be the node where it is right, and 0 where it is not
+  pub judged-at : 2 * k + 3 < 32 → (j word : ℕ) → j < 2 ^ k → word < 2 ^ wordWidth k
+      → judged (2 ^ (3 * k + 3)) (2 ^ k) (2 ^ (2 * k + 2)) j word ≡ cond (isRight k j word) (node k j) 0
+  judged-at top j word h l =
+      let few : k + 1 < 32 = omega arith in
+      rw (numerator k 2)
+      (laws.judges-value shape j word h l (rw lead-double (pow-lt top)) (rw (← double k) (pow-lt few)))
 
   -- nodes and words stand where k is a precision and j is in the table, and nowhere else
   pub node-there : inRange k ≡ true → (j : ℕ) → j ≤ 2 ^ k → nodeOr0 k j ≡ node k j
@@ -140,24 +124,3 @@ module _ (k : ℕ) where
 
   pub no-node : inRange k ≡ false → (j : ℕ) → nodeOr0 k j ≡ 0
   no-node r j = rw r
-
-  pub has-word : inRange k ≡ true → (j : ℕ) → j < 2 ^ k → hasWord k j ≡ true
-  has-word r j h = rw (r, lt-ltb j (2 ^ k) h)
-
-  pub no-word : (j : ℕ) → orderedWords k ≤ j → hasWord k j ≡ false
-  no-word j h = past-choice (inRange k) j (2 ^ k) h
-
-  pub word-there : inRange k ≡ true → (j : ℕ) → j < 2 ^ k → wordOr0 k j ≡ storedWord k j
-  word-there r j h = rw (has-word r j h)
-
-  pub word-past : (j : ℕ) → orderedWords k ≤ j → wordOr0 k j ≡ 0
-  word-past j h = rw (no-word j h)
-
-  pub judged-there : inRange k ≡ true → (j word : ℕ) → j < 2 ^ k → isRight k j word ≡ true → judged k j word ≡ node k j
-  judged-there r j word h t = judged-right j word (rw (has-word r j h, t))
-
-  pub judged-wrong : (j word : ℕ) → isRight k j word ≡ false → judged k j word ≡ 0
-  judged-wrong j word t = rw (t, and-false)
-
-  pub judged-past : (j word : ℕ) → orderedWords k ≤ j → judged k j word ≡ 0
-  judged-past j word h = rw (no-word j h)

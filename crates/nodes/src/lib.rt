@@ -1,11 +1,10 @@
-// The nodes of a table: their values, the words that are stored for them, and the judging of a word.
+// The nodes of a table: their values, and the judging of the words that are stored for them.
 mod eight;
 
 pub use eight::NODES_8;
 pub use eight::node_8;
 ghost use mathlib.Core.Path.{_≡_};
-ghost use Prim.Native.Nat.{_+_, _*_, _^_, _<_, _≤_};
-ghost use Rattle.nodes.specs.Nodes.{nodeOr0, wordOr0, judged, decodeBelow};
+ghost use Rattle.nodes.specs.Nodes.{nodeOr0, numeratorOr0, leadOr0, decodeUnder, judged};
 use precision::Precision;
 use units::TableUnits;
 
@@ -20,69 +19,60 @@ pub fn value(k: Precision, j: u32) -> TableUnits
     if count < j {
         return TableUnits(0);
     }
-    TableUnits(quotient::rounded_up(numerator(k.0), count + j))
+    TableUnits(quotient::rounded_up(numerator(k), count + j))
 }
 
-// The word that is stored for node j at precision k, 0 where node j has none.
-pub fn word(k: Precision, j: u32) -> u64
-    ensures { λ r. ⌜ r ≡ wordOr0 (k .0) j ⌝ }
+// What is divided to give a node, 2^(3k+3), and 0 where k is no precision.
+pub fn numerator(k: Precision) -> u64
+    ensures { λ r. ⌜ r ≡ numeratorOr0 (k .0) ⌝ }
 {
-    let count = k.word_count();
-    if count <= j {
-        return 0;
+    if k.in_range() {
+        bits::power(3 * k.0 + 3)
+    } else {
+        0
     }
-    if j == 0 {
-        return 0;
-    }
-    value(k, j).0 - lead(k.0)
 }
 
-// The value of a word that is right at node j, 0 for a wrong word and where node j has none. It multiplies and does not divide.
-pub fn judge(k: Precision, j: u32, word: u64) -> TableUnits
-    ensures { λ r. ⌜ r .0 ≡ judged (k .0) j word ⌝ }
+// The leading one that a word leaves out, 2^(2k+2), and 0 where k is no precision.
+pub fn lead(k: Precision) -> u32
+    ensures { λ r. ⌜ r ≡ leadOr0 (k .0) ⌝ }
 {
-    let count = k.word_count();
-    if count <= j {
+    if k.in_range() {
+        bits::power(2 * k.0 + 2) as u32
+    } else {
+        0
+    }
+}
+
+// The value of a word at node j, where it is numerator / (first + j) rounded up, and 0 where it is not. It multiplies and does
+// not divide.
+pub fn judge(numerator: u64, first: u32, lead: u32, j: u32, word: u32) -> TableUnits
+    ensures { λ r. ⌜ r .0 ≡ judged numerator first lead j word ⌝ }
+{
+    let c = decoded(lead, j, word);
+    if 4294967295 < c {
         return TableUnits(0);
     }
-    let one = lead(k.0);
-    if one <= word {
+    let i = first as u64 + j as u64;
+    if 4294967295 < i {
         return TableUnits(0);
     }
-    let c = decoded(one, j, word);
-    if quotient::rounds_up(numerator(k.0), count + j, c as u32) {
+    if quotient::rounds_up(numerator, i as u32, c as u32) {
         TableUnits(c)
     } else {
         TableUnits(0)
     }
 }
 
-// What a word stands for under an implied leading one; a zero word at node 0 means twice that.
-fn decoded(lead: u64, j: u32, word: u64) -> u64
-    requires { ⌜ (lead < 2 ^ 32) × (word < lead) ⌝ }
-    ensures { λ r. ⌜ r ≡ decodeBelow lead j word ⌝ }
+// What a word stands for under a leading one; a zero word at node 0 means twice that.
+fn decoded(lead: u32, j: u32, word: u32) -> u64
+    ensures { λ r. ⌜ r ≡ decodeUnder lead j word ⌝ }
 {
     if j != 0 {
-        return lead + word;
+        return lead as u64 + word as u64;
     }
     if word != 0 {
-        return lead + word;
+        return lead as u64 + word as u64;
     }
-    2 * lead
-}
-
-// The leading one that a word leaves out, 2^(2k+2).
-fn lead(p: u32) -> u64
-    requires { ⌜ p ≤ 12 ⌝ }
-    ensures { λ r. ⌜ r ≡ 2 ^ (2 * p + 2) ⌝ }
-{
-    bits::power(2 * p + 2)
-}
-
-// What is divided to give a node, 2^(3k+3).
-fn numerator(p: u32) -> u64
-    requires { ⌜ p ≤ 12 ⌝ }
-    ensures { λ r. ⌜ r ≡ 2 ^ (3 * p + 3) ⌝ }
-{
-    bits::power(3 * p + 3)
+    2 * (lead as u64)
 }

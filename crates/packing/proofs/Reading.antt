@@ -2,13 +2,15 @@
 -- Assumes nothing.
 use Prim.Native.Nat.{ℕ, _+_, _-_, _*_, _/_, _%_, _^_, _≤_, _<_}
 use mathlib.Core.Path.{_≡_, ap}
-use mathlib.Core.Bool.{and-false}
+use mathlib.Core.Bool.{Bool, true, false, cond, and-false}
 use mathlib.Core.List.{List}
 use native.Mathlib.Nat.{mul-le-mul}
 use native.Mathlib.Omega.{arith}
 use borrow.Author.Tests.{le-leb, lt-leb}
 use lib.ListN.{length}
-use Rattle.packing.specs.Packing.{wordAt, wordRead, widest, bytesValue, lastByte}
+use lib.Pow.{pow-pos}
+use Rattle.packing.specs.Packing.{wordAt, wordRead, isReadable, widest, bytesValue, lastByte}
+use Rattle.packing.proofs.Words.{word-lt}
 
 -- a word of width 0
 pub read-narrow : (w : ℕ) (s : List ℕ) (j : ℕ) → w < 1 → wordRead w s j ≡ 0
@@ -46,3 +48,11 @@ bit-small w j wide h = mul-le-mul le wide
   where
     le : j ≤ 2 ^ 32 - 1
     le = omega arith
+
+-- what is read has the width of a word
+pub read-lt : (w : ℕ) (s : List ℕ) (j : ℕ) → wordRead w s j < 2 ^ w
+read-lt w s j = by (isReadable w s j)
+  where
+    by : (b : Bool) → cond b (wordAt w s j) 0 < 2 ^ w
+    by true = word-lt w s j
+    by false = pow-pos w

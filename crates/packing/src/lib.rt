@@ -2,7 +2,7 @@
 ghost use mathlib.Core.Path.{_≡_};
 ghost use Prim.Native.Nat.{_-_, _≤_};
 ghost use lib.ListN.{length};
-ghost use Rattle.packing.specs.Packing.{bytesValue, wordRead};
+ghost use Rattle.packing.specs.Packing.{bytesValue, wordRead, widest};
 
 // The widest word that is read: with up to 7 bits before it, it lies within 8 bytes.
 pub const WIDEST: u32 = 57;
@@ -24,6 +24,7 @@ fn gather(s: &[u8], first: usize, past: usize) -> u64
 // The word at j of a list of words of `width` bits, 0 where the width is 0 or above WIDEST or the word reaches past the bytes.
 pub fn word(s: &[u8], width: u32, j: u32) -> u64
     ensures { λ r. ⌜ r ≡ wordRead width (now (s .entry)) j ⌝ }
+    ensures { λ r. do ⌜ (← ⟦WIDEST⟧ .entry) ≡ widest ⌝ }
 {
     if width == 0 {
         return 0;

@@ -18,7 +18,6 @@ pub fn node(k: Precision, image: &[u8], j: u32) -> NodeRead
             value: TableUnits(0),
         };
     }
-    let p = k.0;
     let count = k.word_count();
     if count < j {
         return NodeRead {
@@ -27,15 +26,16 @@ pub fn node(k: Precision, image: &[u8], j: u32) -> NodeRead
             value: TableUnits(0),
         };
     }
+    let lead = nodes::lead(k);
     if j == count {
         return NodeRead {
             number: 0,
             place: 0,
-            value: TableUnits(bits::power(2 * p + 2)),
+            value: TableUnits(lead as u64),
         };
     }
     let word = packing::word(image, k.word_width() as u32, j);
-    let c = nodes::judge(k, j, word);
+    let c = nodes::judge(nodes::numerator(k), count, lead, j, word as u32);
     if c.0 == 0 {
         return NodeRead {
             number: 6,

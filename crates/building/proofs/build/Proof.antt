@@ -8,7 +8,6 @@ use native.Mathlib.Omega.{arith}
 use lib.ListN.{length, drop}
 use lib.Pow.{pow-mono}
 use borrow.Author.Needs.{needs}
-use Rattle.bits.proofs.Laws.{power-fits}
 use Rattle.answers.specs.Answer.{done}
 use Rattle.quotient.specs.Quotient.{roundedUp}
 use Rattle.packing.specs.Packing.{packedBytes, byteCount}
@@ -50,21 +49,15 @@ word-width-requires c κs = search needs
 cast-width : tie.Need-cast-width
 cast-width c = omega (arith, c .word-width .ensures, kept (c .before .before) .high)
 
-mul-power : tie.Need-mul-power
-mul-power c = omega (arith, kept (c .before .before) .high)
-
-add-power : tie.Need-add-power
-add-power c = omega (arith, kept (c .before .before) .high)
-
-power-requires : tie.Need-power-requires
-power-requires c κs = search needs
+numerator-requires : tie.Need-numerator-requires
+numerator-requires c κs = search needs
 
 fill-requires : tie.Need-fill-requires
 fill-requires c κs =
-    let k = c .before .before .before .before .before .before .before .args .k .0 in
-    let ok = kept (c .before .before .before .before) in
+    let at = c .before .before .before .before in
+    let ok = kept at in
     rw (c .before .before .word-width .ensures, c .before .before .before .word-count .ensures ∙ ok .words)
-    (omega (arith, ok .high), omega (arith, ok .high), omega (arith, pow-mono (ok .high)), rw (byte-count k (ok .low)) (ok .long))
+    (omega (arith, ok .high), omega (arith, ok .high), omega (arith, pow-mono (ok .high)), rw (byte-count (at .before .before .before .args .k .0) (ok .low)) (ok .long))
 
 same-length : tie.Need-same-length
 same-length c = search needs
@@ -75,15 +68,14 @@ returns-2 c =
     let k = at .before .before .before .args .k .0 in
     let s = at .before .before .before .args .image .now in
     let ok = kept at in
-    let top : 3 * k + 3 < 64 = omega (arith, ok .high) in
-    let made = c .before .before .before .before .power .result in
+    let made = c .before .before .before .numerator in
     let count = c .before .before .before .before .before .before .word-count in
     let width = c .before .before .before .before .before .word-width in (
       ap done (sym (limit-passes k s [] 0 (limit at))),
       c .before .before .fill .ensures
-          ∙ ap (λ (w : ℕ). filled s w made (count .result)) (width .ensures)
-          ∙ ap (filled s (2 * k + 2) made) (count .ensures ∙ ok .words)
-          ∙ ap (λ (M : ℕ). filled s (2 * k + 2) M (2 ^ k)) (c .before .before .before .before .power .ensures ∙ power-fits (3 * k + 3) top)
+          ∙ ap (λ (w : ℕ). filled s w (made .result) (count .result)) (width .ensures)
+          ∙ ap (filled s (2 * k + 2) (made .result)) (count .ensures ∙ ok .words)
+          ∙ ap (λ (M : ℕ). filled s (2 * k + 2) M (2 ^ k)) (made .ensures ∙ ok .numerator)
           ∙ ap (λ (n : ℕ). image k ++ drop n s) (byte-count k (ok .low))
           ∙ ap (λ (b : Bool). cond b s (builtBuffer k s)) (sym (limit-image k s (limit at))),
     )
@@ -97,9 +89,7 @@ build-spec =
     word-count-requires
     word-width-requires
     cast-width
-    mul-power
-    add-power
-    power-requires
+    numerator-requires
     fill-requires
     same-length
     returns-2)

@@ -1,16 +1,22 @@
 -- `checking::check` meets its contract: a broken limit, the lowest wrong word, or none.
 -- Assumes nothing.
-use mathlib.Core.Path.{_≡_, sym, _∙_, ap}
-use mathlib.Core.List.{[], _∷_}
-use Prim.Native.Nat.{_^_, _≤_, _<_}
+use mathlib.Core.Path.{_≡_, refl, sym, _∙_, ap}
+use mathlib.Core.List.{List, [], _∷_}
+use Prim.Native.Nat.{ℕ, _+_, _*_, _%_, _^_, _≤_, _<_}
+use native.Mathlib.Nat.{le-of-eq}
 use native.Mathlib.Omega.{arith}
 use lib.ListN.{length}
+use lib.Pow.{pow-pos}
 use borrow.Author.Needs.{needs}
 use borrow.Author.Tests.{lt-ltb, le-ltb}
+use Rattle.quotient.specs.Quotient.{roundedUp}
+use Rattle.nodes.proofs.Powers.{numerator, shape}
 use Rattle.answers.specs.Answer.{done}
-use Rattle.image.specs.Image.{firstWrong}
+use Rattle.image.specs.Image.{firstWrongWord, firstWrong}
 use Rattle.image.specs.Refusals.{brokenLimit, imageRefusal}
+use Rattle.image.proofs.Laws.{whole-bytes}
 use Rattle.image.proofs.Limits.{Kept, limit-refuses, limit-passes, limit-kept}
+use Rattle.checking.specs.Words.{AreWords}
 use Rattle.checking.proofs.check.Statement.{statement}
 use Rattle.checking.proofs.check.Tie as tie
 
@@ -20,6 +26,23 @@ limit c = sym (c .before .broken-limit .ensures) ∙ c .if1 .left
 
 kept : (c : tie.Else1) → Kept (c .before .before .before .args .k .0) (c .before .before .before .args .image .now)
 kept c = limit-kept (c .before .before .before .args .k .0) (c .before .before .before .args .image .now) (limit c)
+
+-- the words of a precision are such as are checked
+are-words : (k : ℕ) (s : List ℕ) → Kept k s → AreWords s (2 * k + 2) (2 ^ k) (2 ^ (3 * k + 3)) (2 ^ (2 * k + 2))
+are-words k s ok =
+    record {
+      some = pow-pos k;
+      one = omega arith;
+      wide = omega (arith, ok .high);
+      few = shape k 2 (omega arith) .wide;
+      leads = refl;
+      numerator = numerator k 2;
+      long = omega (arith, whole-bytes k (ok .low), ok .long);
+    }
+
+-- the lowest wrong word, by the numbers that are handed on
+abbrev lowestBy : List ℕ → ℕ → ℕ → ℕ → ℕ
+lowestBy s w n M = firstWrongWord w (λ (j : ℕ). roundedUp M (n + j) % 2 ^ w) n s
 
 broken-limit-requires : tie.Need-broken-limit-requires
 broken-limit-requires c κs = search needs
@@ -34,34 +57,65 @@ returns c =
 word-count-requires : tie.Need-word-count-requires
 word-count-requires c κs = search needs
 
+word-width-requires : tie.Need-word-width-requires
+word-width-requires c κs = search needs
+
+cast-first-wrong : tie.Need-cast-first-wrong
+cast-first-wrong c = omega (arith, c .word-width .ensures, kept (c .before .before) .high)
+
+numerator-requires : tie.Need-numerator-requires
+numerator-requires c κs = search needs
+
+lead-requires : tie.Need-lead-requires
+lead-requires c κs = search needs
+
 first-wrong-requires : tie.Need-first-wrong-requires
 first-wrong-requires c κs =
-    let ok = kept (c .before) in
-    (ok .low, ok .high, ok .long, c .word-count .ensures ∙ ok .words)
+    let at = c .before .before .before .before in
+    let ok = kept at in
+    rw (
+      c .before .before .word-width .ensures,
+      c .before .before .before .word-count .ensures ∙ ok .words,
+      c .before .numerator .ensures ∙ ok .numerator,
+      c .lead .ensures ∙ ok .lead,
+    )
+    (are-words (at .before .before .before .args .k .0) (at .before .before .before .args .image .now) ok)
 
-cast-t8 : tie.Need-cast-t8
-cast-t8 c = search needs
+-- the place that is found is the lowest wrong word of the image
+found : (c : tie.After-first-wrong) → c .first-wrong .result ≡ firstWrong (c .before .before .before .before .before .before .before .before .args .k .0) (c .before .before .before .before .before .before .before .before .args .image .now)
+found c =
+    let at = c .before .before .before .before .before in
+    let k = at .before .before .before .args .k .0 in
+    let s = at .before .before .before .args .image .now in
+    let ok = kept at in
+    let count = c .before .before .before .before .word-count in
+    let made = c .before .before .numerator in
+    c .first-wrong .ensures
+    ∙ ap (λ (w : ℕ). lowestBy s w (count .result) (made .result)) (c .before .before .before .word-width .ensures)
+    ∙ ap (λ (n : ℕ). lowestBy s (2 * k + 2) n (made .result)) (count .ensures ∙ ok .words)
+    ∙ ap (lowestBy s (2 * k + 2) (2 ^ k)) (made .ensures ∙ ok .numerator)
+
+cast-t12 : tie.Need-cast-t12
+cast-t12 c = search needs
 
 returns-2 : tie.Need-returns-2
 returns-2 c =
-    let at = c .before .before .before in
+    let at = c .before .before .before .before .before .before in
     let k = at .before .before .before .args .k .0 in
     let s = at .before .before .before .args .image .now in
-    let found = c .before .first-wrong .ensures in
-    let count = c .before .before .word-count .ensures ∙ kept at .words in
-    let less : firstWrong k s < 2 ^ k = omega (arith, found, count, c .if2 .taken) in
-    rw found
+    let count = c .before .before .before .before .before .word-count .ensures ∙ kept at .words in
+    let less : firstWrong k s < 2 ^ k = omega (arith, found (c .before), count, c .if2 .taken) in
+    rw (found (c .before))
     (ap done
     (sym (limit-passes k s (imageRefusal k s ∷ []) 0 (limit at) ∙ rw (lt-ltb (firstWrong k s) (2 ^ k) less))))
 
 returns-3 : tie.Need-returns-3
 returns-3 c =
-    let at = c .before .before .before in
+    let at = c .before .before .before .before .before .before in
     let k = at .before .before .before .args .k .0 in
     let s = at .before .before .before .args .image .now in
-    let found = c .before .first-wrong .ensures in
-    let count = c .before .before .word-count .ensures ∙ kept at .words in
-    let none : 2 ^ k ≤ firstWrong k s = omega (arith, found, count, c .if2 .left) in
+    let count = c .before .before .before .before .before .word-count .ensures ∙ kept at .words in
+    let none : 2 ^ k ≤ firstWrong k s = omega (arith, found (c .before), count, c .if2 .left) in
     ap done (sym (limit-passes k s (imageRefusal k s ∷ []) 0 (limit at) ∙ rw (le-ltb (firstWrong k s) (2 ^ k) none)))
 
 pub check-spec : {M : Type 1} → statement M
@@ -71,7 +125,11 @@ check-spec =
     broken-limit-requires
     returns
     word-count-requires
+    word-width-requires
+    cast-first-wrong
+    numerator-requires
+    lead-requires
     first-wrong-requires
-    cast-t8
+    cast-t12
     returns-2
     returns-3)

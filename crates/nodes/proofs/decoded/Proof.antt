@@ -1,8 +1,8 @@
 -- `nodes::decoded` meets its contract: each return answers the tests that led there.
 -- Assumes nothing.
+use mathlib.Core.Bool.{and-false}
 use borrow.Author.Needs.{needs}
 use borrow.Author.Tests.{eq-eqb, ne-eqb}
-use mathlib.Core.Bool.{and-false}
 use Rattle.nodes.proofs.decoded.Statement.{statement}
 use Rattle.nodes.proofs.decoded.Tie as tie
 

@@ -1,135 +1,83 @@
--- `nodes::judge` meets its contract: the test by a product says whether the word is right, and a right word decodes to the node.
+-- `nodes::judge` meets its contract: the value and the divisor have 32 bits, and the test by a product decides.
 -- Assumes nothing.
 use mathlib.Core.Path.{_≡_, sym, ap, _∙_}
-use Prim.Native.Nat.{ℕ, _+_, _*_, _^_, _≤_, _<_}
+use mathlib.Core.Bool.{Bool, true, false}
+use Prim.Native.Nat.{ℕ, _+_, _^_, _<_}
 use native.Mathlib.Omega.{arith}
-use lib.Pow.{pow-mono}
 use borrow.Author.Needs.{needs}
-use Rattle.precision.proofs.Range.{Counted, counted}
-use Rattle.nodes.specs.Nodes.{decodeBelow, isRight}
-use Rattle.nodes.proofs.Laws.{decode-le}
-use Rattle.nodes.proofs.Nodes.{
-  judged-past,
-  judged-wrong,
-  judged-there,
-  long-word-wrong,
-  judge-right,
-  decode-before,
-  decode-right,
-}
+use borrow.Author.Tests.{lt-ltb, le-ltb}
+use Rattle.quotient.specs.Quotient.{roundsUp}
+use Rattle.nodes.specs.Nodes.{decodeUnder}
 use Rattle.nodes.proofs.judge.Statement.{statement}
 use Rattle.nodes.proofs.judge.Tie as tie
 
-word-count-requires : tie.Need-word-count-requires
-word-count-requires c κs = search needs
+decoded-requires : tie.Need-decoded-requires
+decoded-requires c κs = search needs
 
 returns : tie.Need-returns
 returns c =
     let a = c .before .before .args in
-    sym (judged-past (a .k .0) (a .j) (a .word) (omega (arith, c .before .word-count .ensures)))
+    rw (le-ltb (decodeUnder (a .lead) (a .j) (a .word)) (2 ^ 32) (omega (arith, c .before .decoded .ensures, c .if1 .taken)))
 
--- node j has a word
-has : (c : tie.Else1) → Counted (c .before .before .args .k .0) (c .before .before .args .j) (c .before .word-count .result)
-has c = counted _ _ _ (c .before .word-count .ensures) (omega arith)
+add-i : tie.Need-add-i
+add-i c = search needs
 
-lead-requires : tie.Need-lead-requires
-lead-requires c κs = has c .small
+-- behind its test the value has 32 bits
+value : (c : tie.Else1) → decodeUnder (c .before .before .args .lead) (c .before .before .args .j) (c .before .before .args .word) < 2 ^ 32
+value c = omega (arith, c .before .decoded .ensures, c .if1 .left)
 
 returns-2 : tie.Need-returns-2
 returns-2 c =
-    let a = c .before .before .before .before .args in
-    let long : 2 ^ (2 * a .k .0 + 2) ≤ a .word = omega (arith, c .before .lead .ensures) in
-    sym (judged-wrong (a .k .0) (a .j) (a .word) (long-word-wrong (a .k .0) (a .j) (a .word) long))
-
--- the word has no more bits than it may have
-short :
-    (c : tie.Else2) →
-    c .before .before .before .before .args .word
-    < 2 ^ (2 * c .before .before .before .before .args .k .0 + 2)
-short c = omega (arith, c .before .lead .ensures)
-
--- and the leading one is far below 2^32
-lead-small : (c : tie.Else2) → 2 ^ (2 * c .before .before .before .before .args .k .0 + 2) ≤ 2 ^ 26
-lead-small c =
-    let h = has (c .before .before) .small in
-    pow-mono {i = 2 * c .before .before .before .before .args .k .0 + 2} {j = 26} (omega (arith, h))
-
-decoded-requires : tie.Need-decoded-requires
-decoded-requires c κs = omega (arith, c .before .lead .ensures, lead-small c, short c)
-
-numerator-requires : tie.Need-numerator-requires
-numerator-requires c κs = has (c .before .before .before) .small
-
-add-rounds-up : tie.Need-add-rounds-up
-add-rounds-up c =
-    let known = has (c .before .before .before .before) in
-    omega (arith, known .words, pow-mono (known .small))
-
--- what the word stands for
-value :
-    (c : tie.After-decoded) →
-    c .decoded .result
-    ≡ decodeBelow (2 ^ (2 * c .before .before .before .before .before .args .k .0 + 2))
-    (c .before .before .before .before .before .args .j)
-    (c .before .before .before .before .before .args .word)
-value c =
-    let a = c .before .before .before .before .before .args in
-    c .decoded .ensures ∙ ap (λ (one : ℕ). decodeBelow one (a .j) (a .word)) (c .before .before .lead .ensures)
+    let a = c .before .before .before .args in
+    rw (
+      lt-ltb (decodeUnder (a .lead) (a .j) (a .word)) (2 ^ 32) (value (c .before)),
+      le-ltb (a .first + a .j) (2 ^ 32) (omega (arith, c .if2 .taken)),
+    )
 
 cast-rounds-up : tie.Need-cast-rounds-up
-cast-rounds-up c =
-    let a = c .before .before .before .before .before .before .args in
-    let one = 2 ^ (2 * a .k .0 + 2) in
-    omega (
-      arith,
-      value (c .before),
-      decode-le one (a .j) (a .word) (short (c .before .before)),
-      lead-small (c .before .before),
-    )
+cast-rounds-up c = omega (arith, c .if2 .left)
+
+cast-rounds-up-2 : tie.Need-cast-rounds-up-2
+cast-rounds-up-2 c = omega (arith, c .before .if1 .left)
 
 rounds-up-requires : tie.Need-rounds-up-requires
 rounds-up-requires c κs = search needs
 
--- the test says whether the word is right
-tested :
-    (c : tie.After-rounds-up) →
-    c .rounds-up .result
-    ≡ isRight (c .before .before .before .before .before .before .before .args .k .0)
-    (c .before .before .before .before .before .before .before .args .j)
-    (c .before .before .before .before .before .before .before .args .word)
-tested c =
-    let a = c .before .before .before .before .before .before .before .args in
-    rw (c .rounds-up .ensures, c .before .numerator .ensures, has (c .before .before .before .before .before) .words, value (c .before .before))
-    (judge-right (a .k .0) (a .j) (a .word) (has (c .before .before .before .before .before) .below) (short (c .before .before .before)))
+-- what the product says of the value
+tested : (c : tie.After-rounds-up) (b : Bool) → c .rounds-up .result ≡ b → roundsUp (c .before .before .before .before .args .numerator) (c .before .before .before .before .args .first + c .before .before .before .before .args .j) (decodeUnder (c .before .before .before .before .args .lead) (c .before .before .before .before .args .j) (c .before .before .before .before .args .word)) ≡ b
+tested c b e =
+    let a = c .before .before .before .before .args in
+    ap (roundsUp (a .numerator) (a .first + a .j)) (sym (c .before .before .before .decoded .ensures)) ∙ sym (c .rounds-up .ensures) ∙ e
 
 returns-3 : tie.Need-returns-3
 returns-3 c =
-    let a = c .before .before .before .before .before .before .before .before .args in
-    let known = has (c .before .before .before .before .before .before) in
-    let h = known .below in
-    let t = sym (tested (c .before)) ∙ c .if3 .taken in
-    value (c .before .before .before)
-    ∙ sym (decode-before (a .k .0) (a .j) (a .word) h)
-    ∙ decode-right (a .k .0) (a .j) (a .word) h t
-    ∙ sym (judged-there (a .k .0) (known .ranged) (a .j) (a .word) h t)
+    let a = c .before .before .before .before .before .args in
+    rw (
+      lt-ltb (decodeUnder (a .lead) (a .j) (a .word)) (2 ^ 32) (value (c .before .before .before)),
+      lt-ltb (a .first + a .j) (2 ^ 32) (omega (arith, c .before .before .if2 .left)),
+      tested (c .before) true (c .if3 .taken),
+    )
+    (c .before .before .before .before .decoded .ensures)
 
 returns-4 : tie.Need-returns-4
 returns-4 c =
-    let a = c .before .before .before .before .before .before .before .before .args in
-    sym (judged-wrong (a .k .0) (a .j) (a .word) (sym (tested (c .before)) ∙ c .if3 .left))
+    let a = c .before .before .before .before .before .args in
+    rw (
+      lt-ltb (decodeUnder (a .lead) (a .j) (a .word)) (2 ^ 32) (value (c .before .before .before)),
+      lt-ltb (a .first + a .j) (2 ^ 32) (omega (arith, c .before .before .if2 .left)),
+      tested (c .before) false (c .if3 .left),
+    )
 
 pub judge-spec : {M : Type 1} → statement M
 judge-spec =
     tie.close
     (tie.spec
-    word-count-requires
-    returns
-    lead-requires
-    returns-2
     decoded-requires
-    numerator-requires
-    add-rounds-up
+    returns
+    add-i
+    returns-2
     cast-rounds-up
+    cast-rounds-up-2
     rounds-up-requires
     returns-3
     returns-4)

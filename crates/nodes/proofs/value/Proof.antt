@@ -1,6 +1,7 @@
 -- `nodes::value` meets its contract: each return answers the tests that led there.
 -- Assumes nothing.
-use mathlib.Core.Path.{sym, _∙_}
+use mathlib.Core.Path.{_≡_, sym, _∙_}
+use Prim.Native.Nat.{_+_, _*_, _^_}
 use native.Mathlib.Omega.{arith}
 use lib.Pow.{pow-mono}
 use borrow.Author.Needs.{needs}
@@ -27,7 +28,7 @@ returns-2 c =
     sym (node-past (a .k .0) (a .j) (omega (arith, has (c .before) .words)))
 
 numerator-requires : tie.Need-numerator-requires
-numerator-requires c κs = has (c .before) .small
+numerator-requires c κs = search needs
 
 add-rounded-up : tie.Need-add-rounded-up
 add-rounded-up c = omega (arith, has (c .before .before) .words, pow-mono (has (c .before .before) .small))
@@ -39,8 +40,10 @@ returns-3 : tie.Need-returns-3
 returns-3 c =
     let a = c .before .before .before .before .before .args in
     let count = has (c .before .before .before) .words in
-    rw (c .rounded-up .ensures, c .before .numerator .ensures, count)
-    (sym (node-there (a .k .0) (has (c .before .before .before) .ranged) (a .j) (omega (arith, count))))
+    let ranged = has (c .before .before .before) .ranged in
+    let made : c .before .numerator .result ≡ 2 ^ (3 * a .k .0 + 3) = c .before .numerator .ensures ∙ rw ranged in
+    rw (c .rounded-up .ensures, made, count)
+    (sym (node-there (a .k .0) ranged (a .j) (omega (arith, count))))
 
 pub value-spec : {M : Type 1} → statement M
 value-spec =

@@ -1,7 +1,7 @@
 -- `packing::word` meets its contract: each test answers a way in which a word cannot be read, and the bytes that are left
 -- are those of the word. Assumes nothing.
 use Prim.Native.Nat.{ℕ, _+_, _*_, _-_, _/_, _%_, _^_, _≤_}
-use mathlib.Core.Path.{sym, ap, _∙_}
+use mathlib.Core.Path.{refl, sym, ap, _∙_}
 use native.Mathlib.Omega.{arith}
 use denote.Ref.{now}
 use lib.ListN.{length}
@@ -13,12 +13,12 @@ use Rattle.packing.proofs.word.Tie as tie
 returns : tie.Need-returns
 returns c =
     let a = c .before .before .args in
-    sym (read-narrow (a .width) (now (a .s)) (a .j) (omega arith))
+    (sym (read-narrow (a .width) (now (a .s)) (a .j) (omega arith)), refl)
 
 returns-2 : tie.Need-returns-2
 returns-2 c =
     let a = c .before .before .before .args in
-    sym (read-wide (a .width) (now (a .s)) (a .j) (omega arith))
+    (sym (read-wide (a .width) (now (a .s)) (a .j) (omega arith)), refl)
 
 mul-bit : tie.Need-mul-bit
 mul-bit c =
@@ -38,7 +38,7 @@ add-past c =
 returns-3 : tie.Need-returns-3
 returns-3 c =
     let a = c .before .before .before .before .args in
-    sym (read-short (a .width) (now (a .s)) (a .j) (omega arith))
+    (sym (read-short (a .width) (now (a .s)) (a .j) (omega arith)), refl)
 
 mul-behind : tie.Need-mul-behind
 mul-behind c =
@@ -66,13 +66,15 @@ returns-4 c =
     let past = (a .j * a .width + a .width + 7) / 8 in
     let one : 1 ≤ a .width = omega arith in
     let wide : a .width ≤ 57 = omega arith in
-    let there : a .j * a .width + a .width ≤ 8 * length (now (a .s)) = omega arith in
-    c .low .ensures
-    ∙ ap (λ (x : ℕ). x % 2 ^ a .width)
-    (c .before .high .ensures
-    ∙ ap (λ (x : ℕ). x / 2 ^ (8 * past - (a .j * a .width + a .width))) (c .before .before .gather .ensures))
-    ∙ word-by-past (a .width) (now (a .s)) (a .j) past (past-last (a .width) (a .j) one)
-    ∙ sym (read-there (a .width) (now (a .s)) (a .j) one wide there)
+    let there : a .j * a .width + a .width ≤ 8 * length (now (a .s)) = omega arith in (
+      c .low .ensures
+          ∙ ap (λ (x : ℕ). x % 2 ^ a .width)
+          (c .before .high .ensures
+          ∙ ap (λ (x : ℕ). x / 2 ^ (8 * past - (a .j * a .width + a .width))) (c .before .before .gather .ensures))
+          ∙ word-by-past (a .width) (now (a .s)) (a .j) past (past-last (a .width) (a .j) one)
+          ∙ sym (read-there (a .width) (now (a .s)) (a .j) one wide there),
+      refl,
+    )
 
 pub word-spec : {M : Type 1} → statement M
 word-spec =

@@ -2,17 +2,18 @@
 -- Assumes nothing.
 use mathlib.Core.Path.{_≡_, sym, _∙_, ap}
 use mathlib.Core.List.{[], _∷_}
-use Prim.Native.Nat.{ℕ, _+_, _*_, _^_, _<_}
+use Prim.Native.Nat.{ℕ, _+_, _*_, _^_, _≤_, _<_}
 use native.Mathlib.Omega.{arith}
 use lib.ListN.{length}
+use lib.Pow.{pow-mono}
 use borrow.Author.Needs.{needs}
 use borrow.Author.Tests.{eq-eqb}
-use Rattle.bits.proofs.Laws.{power-fits}
 use Rattle.answers.specs.Refusal.{served}
 use Rattle.answers.specs.Answer.{nodeRead}
 use Rattle.precision.specs.Precision.{wordWidth}
 use Rattle.nodes.specs.Nodes.{decode, judged}
 use Rattle.packing.specs.Packing.{wordRead}
+use Rattle.packing.proofs.Reading.{read-lt}
 use Rattle.image.specs.Image.{wordOf}
 use Rattle.image.specs.Refusals.{brokenLimit, nodeRefusal, wordRefusal}
 use Rattle.image.proofs.Limits.{Kept, limit-refuses, limit-passes, limit-kept}
@@ -31,16 +32,29 @@ kept c = limit-kept (c .before .before .before .args .k .0) (c .before .before .
 counted : (c : tie.After-word-count) → c .word-count .result ≡ 2 ^ c .before .before .before .before .args .k .0
 counted c = c .word-count .ensures ∙ kept (c .before) .words
 
--- the word of node j is there, and the value that is judged of it
-below : (c : tie.Else3) → c .before .before .before .before .before .before .args .j < 2 ^ c .before .before .before .before .before .before .args .k .0
-below c = omega (arith, counted (c .before .before), c .before .if2 .left, c .if3 .left)
+-- the word of node j is there
+below : (c : tie.Else3) → c .before .before .before .before .before .before .before .args .j < 2 ^ c .before .before .before .before .before .before .before .args .k .0
+below c = omega (arith, counted (c .before .before .before), c .before .before .if2 .left, c .if3 .left)
 
-value : (c : tie.After-struct-known) → c .before .judge .result .0 ≡ judged (c .before .before .before .before .before .before .before .before .before .before .args .k .0) (c .before .before .before .before .before .before .before .before .before .before .args .j) (wordRead (wordWidth (c .before .before .before .before .before .before .before .before .before .before .args .k .0)) (c .before .before .before .before .before .before .before .before .before .before .args .image .now) (c .before .before .before .before .before .before .before .before .before .before .args .j))
+-- the value that is judged of it
+value : (c : tie.After-struct-known) → c .before .judge .result .0 ≡ judged (2 ^ (3 * c .before .before .before .before .before .before .before .before .before .before .before .before .args .k .0 + 3)) (2 ^ c .before .before .before .before .before .before .before .before .before .before .before .before .args .k .0) (2 ^ (2 * c .before .before .before .before .before .before .before .before .before .before .before .before .args .k .0 + 2)) (c .before .before .before .before .before .before .before .before .before .before .before .before .args .j) (wordRead (wordWidth (c .before .before .before .before .before .before .before .before .before .before .before .before .args .k .0)) (c .before .before .before .before .before .before .before .before .before .before .before .before .args .image .now) (c .before .before .before .before .before .before .before .before .before .before .before .before .args .j))
 value c =
-    let args = c .before .before .before .before .before .before .before .before .before .before .args in
+    let at = c .before .before .before .before .before .before .before .before .before in
+    let k = at .before .before .before .args .k .0 in
+    let s = at .before .before .before .args .image .now in
+    let j = at .before .before .before .args .j in
+    let ok = kept at in
+    let made = c .before .before .numerator in
+    let count = c .before .before .before .before .before .before .before .before .word-count in
+    let one = c .before .before .before .before .before .before .lead in
+    let word = c .before .before .before .word in
+    let width = c .before .before .before .before .word-width in
     c .before .judge .ensures
-    ∙ ap (judged (args .k .0) (args .j))
-    (c .before .before .word .ensures ∙ ap (λ (w : ℕ). wordRead w (args .image .now) (args .j)) (c .before .before .before .word-width .ensures))
+    ∙ ap (judged (made .result) (count .result) (one .result) j) (word .ensures .0)
+    ∙ ap (λ (w : ℕ). judged (made .result) (count .result) (one .result) j (wordRead w s j)) (width .ensures)
+    ∙ ap (λ (M : ℕ). judged M (count .result) (one .result) j (wordRead (2 * k + 2) s j)) (made .ensures ∙ ok .numerator)
+    ∙ ap (λ (n : ℕ). judged (2 ^ (3 * k + 3)) n (one .result) j (wordRead (2 * k + 2) s j)) (count .ensures ∙ ok .words)
+    ∙ ap (λ (l : ℕ). judged (2 ^ (3 * k + 3)) (2 ^ k) l j (wordRead (2 * k + 2) s j)) (one .ensures ∙ ok .lead)
 
 broken-limit-requires : tie.Need-broken-limit-requires
 broken-limit-requires c κs = search needs
@@ -69,14 +83,11 @@ returns-2 c =
     (sym (limit-passes k s (nodeRefusal k j ∷ wordRefusal k s j ∷ []) v (limit at)
     ∙ node-above k s j v (omega (arith, counted (c .before), c .if2 .taken))))
 
-mul-power : tie.Need-mul-power
-mul-power c = omega (arith, kept (c .before .before .before) .high)
+lead-requires : tie.Need-lead-requires
+lead-requires c κs = search needs
 
-add-power : tie.Need-add-power
-add-power c = omega (arith, kept (c .before .before .before) .high)
-
-power-requires : tie.Need-power-requires
-power-requires c κs = search needs
+cast-t13 : tie.Need-cast-t13
+cast-t13 c = search needs
 
 returns-3 : tie.Need-returns-3
 returns-3 c =
@@ -85,9 +96,8 @@ returns-3 c =
     let s = at .before .before .before .args .image .now in
     let j = at .before .before .before .args .j in
     let v = decode k j (wordOf k s j) in
-    let e : j ≡ 2 ^ k = omega (arith, counted (c .before .before .before), c .before .if3 .taken) in
-    let top : 2 * k + 2 < 64 = omega (arith, kept at .high) in
-    let last : c .power .result ≡ v = c .power .ensures ∙ power-fits (2 * k + 2) top ∙ rw (eq-eqb j (2 ^ k) e) in
+    let e : j ≡ 2 ^ k = omega (arith, counted (c .before .before .before), c .if3 .taken) in
+    let last : c .before .lead .result ≡ v = c .before .lead .ensures ∙ kept at .lead ∙ rw (eq-eqb j (2 ^ k) e) in
     rw last
     (ap nodeRead (sym (limit-passes k s (nodeRefusal k j ∷ wordRefusal k s j ∷ []) v (limit at) ∙ node-end k s j v e)))
 
@@ -95,18 +105,29 @@ word-width-requires : tie.Need-word-width-requires
 word-width-requires c κs = search needs
 
 cast-word : tie.Need-cast-word
-cast-word c = omega (arith, c .word-width .ensures, kept (c .before .before .before .before) .high)
+cast-word c = omega (arith, c .word-width .ensures, kept (c .before .before .before .before .before) .high)
 
 word-requires : tie.Need-word-requires
 word-requires c κs = search needs
+
+numerator-requires : tie.Need-numerator-requires
+numerator-requires c κs = search needs
+
+cast-judge : tie.Need-cast-judge
+cast-judge c =
+    let at = c .before .before .before .before .before .before .before in
+    let a = at .before .before .before .args in
+    let width = c .before .before .word-width in
+    let top : width .result ≤ 26 = omega (arith, width .ensures, kept at .high) in
+    omega (arith, c .before .word .ensures .0, read-lt (width .result) (a .image .now) (a .j), pow-mono top)
 
 judge-requires : tie.Need-judge-requires
 judge-requires c κs = search needs
 
 returns-4 : tie.Need-returns-4
 returns-4 c =
-    let there = c .before .before .before .before .before in
-    let at = there .before .before .before in
+    let there = c .before .before .before .before .before .before in
+    let at = there .before .before .before .before in
     let k = at .before .before .before .args .k .0 in
     let s = at .before .before .before .args .image .now in
     let j = at .before .before .before .args .j in
@@ -117,8 +138,8 @@ returns-4 c =
 
 returns-5 : tie.Need-returns-5
 returns-5 c =
-    let there = c .before .before .before .before .before in
-    let at = there .before .before .before in
+    let there = c .before .before .before .before .before .before in
+    let at = there .before .before .before .before in
     let k = at .before .before .before .args .k .0 in
     let s = at .before .before .before .args .image .now in
     let j = at .before .before .before .args .j in
@@ -137,13 +158,14 @@ node-spec =
     returns
     word-count-requires
     returns-2
-    mul-power
-    add-power
-    power-requires
+    lead-requires
+    cast-t13
     returns-3
     word-width-requires
     cast-word
     word-requires
+    numerator-requires
+    cast-judge
     judge-requires
     returns-4
     returns-5)
