@@ -18,7 +18,7 @@ use Rattle.answers.specs.Refusal.{outcome, served}
 use Rattle.image.specs.Image.{image, builtBuffer, afterImage, wordOf, isWrong, firstWrong}
 use Rattle.image.specs.Refusals.{precisionRefusal, bufferRefusal, nodeRefusal, imageRefusal, wordRefusal}
 use Rattle.image.specs.Calls.{buildOutcome, buildLeaves, noImage, checkOutcome, nodeOutcome}
-use Rattle.image.proofs.Laws.{image-length, image-word, built-length, right-not-wrong, stored-lt}
+use Rattle.image.proofs.Laws.{built-front, image-length, image-word, built-length, right-not-wrong, stored-lt}
 use Rattle.image.proofs.Limits.{limit-none, limit-image, limit-kept, image-limit}
 use Rattle.image.proofs.Lowest.{lowest-none}
 use Rattle.image.proofs.Judging.{node-right, node-end}
@@ -58,6 +58,10 @@ module _ (k : ℕ) (s : List ℕ) where
 module _ (k : ℕ) (s : List ℕ) (p : IsPrecision k) (l : IsLongEnough k s) where
   pub built-words : (j : ℕ) → j < 2 ^ k → IsRightAt k (buildLeaves k s) j
   built-words j h = rw (built k s p l) (image-word k j (afterImage k s) h)
+
+  -- the image stands at the front, whatever stood there before
+  pub front : take (imageLength k) (buildLeaves k s) ≡ image k
+  front = rw (built k s p l) (built-front k (p .0) s)
 
   still-long : IsLongEnough k (buildLeaves k s)
   still-long = rw (built-as-long k s) l

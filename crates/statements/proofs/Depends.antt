@@ -1,24 +1,29 @@
 -- What the answers of reading a node and of the check depend on.
 -- Assumes nothing.
 use mathlib.Core.Path.{_≡_, refl, sym, _∙_, ap}
+use mathlib.Core.Logic.{⊎-elim}
 use mathlib.Core.Bool.{Bool, true, false, cond, not, _&&_}
 use mathlib.Core.List.{List, [], _∷_}
-use Prim.Native.Nat.{ℕ, _^_, _≤_, _<_}
+use Prim.Native.Nat.{ℕ, _+_, _*_, _^_, _≤_, _<_}
 use native.Mathlib.Omega.{arith}
-use lib.ListN.{length, getD}
+use lib.ListN.{length, take, getD}
+use lib.Seq.{ext-getD, getD-take}
 use lib.Dec.{ltb}
 use borrow.Author.Tests.{le-ltb, ltb-true, ltb-false, eq-eqb}
+use Rattle.truth.proofs.Bools.{below-or-not}
 use Rattle.precision.specs.Precision.{inRange, imageLength, wordCount, wordWidth}
 use Rattle.nodes.specs.Nodes.{decode, isRight}
-use Rattle.packing.specs.Packing.{firstByte, lastByte}
-use Rattle.packing.proofs.Words.{word-local}
+use Rattle.packing.specs.Packing.{wordAt, firstByte, lastByte}
+use Rattle.packing.proofs.Words.{word-local, word-take, word-within, span-within}
 use Rattle.answers.specs.Refusal.{Refusal, Outcome, outcome, served, turnedBack}
 use Rattle.image.specs.Image.{wordOf, isWrong}
 use Rattle.image.specs.Refusals.{precisionRefusal, bufferRefusal, nodeRefusal, imageRefusal, wordRefusal}
-use Rattle.image.specs.Calls.{checkOutcome, nodeOutcome}
+use Rattle.image.specs.Calls.{checkOutcome, nodeOutcome, shownPart}
+use Rattle.image.proofs.Laws.{whole-bytes, byte-count}
 use Rattle.image.proofs.Lowest.{lowest-agrees}
 use Rattle.image.proofs.Judging.{node-end, node-above as node-above-end}
-use Rattle.statements.specs.Terms.{IsLongEnough}
+use Rattle.statements.specs.Terms.{IsPrecision, IsLongEnough}
+use Rattle.statements.proofs.Parts.{shown-empty, shown-length, shown-bytes}
 
 -- two buffers that are long enough
 module _ (k : ℕ) (s t : List ℕ) (l : IsLongEnough k s) (m : IsLongEnough k t) where
@@ -59,3 +64,39 @@ module _ (k : ℕ) (s t : List ℕ) (l : IsLongEnough k s) (m : IsLongEnough k t
 -- a word by its bytes
 pub word-same : (k : ℕ) (s t : List ℕ) (j : ℕ) → ((i : ℕ) → firstByte (wordWidth k) j ≤ i → i ≤ lastByte (wordWidth k) j → getD s i 0 ≡ getD t i 0) → wordOf k s j ≡ wordOf k t j
 word-same k s t j = word-local (wordWidth k) s t j (omega arith)
+
+-- two buffers with the same image at their front
+module _ (k : ℕ) (s t : List ℕ) (p : IsPrecision k) (l : IsLongEnough k s) (m : IsLongEnough k t) (e : take (imageLength k) s ≡ take (imageLength k) t) where
+  front-word : (j : ℕ) → j < 2 ^ k → wordOf k s j ≡ wordOf k t j
+  front-word j h =
+      let there : j * wordWidth k + wordWidth k ≤ 8 * imageLength k = omega (arith, word-within (wordWidth k) (wordCount k) j h, whole-bytes k (p .0)) in
+      sym (word-take (wordWidth k) (imageLength k) s j (omega arith) there)
+      ∙ ap (λ (u : List ℕ). wordAt (wordWidth k) u j) e
+      ∙ word-take (wordWidth k) (imageLength k) t j (omega arith) there
+
+  pub front-node : (j : ℕ) → nodeOutcome k s j ≡ nodeOutcome k t j
+  front-node j = node-same k s t l m j (front-word j)
+
+  pub front-check : checkOutcome k s ≡ checkOutcome k t
+  front-check = check-same k s t l m front-word
+
+  front-byte : (i : ℕ) → i < imageLength k → getD s i 0 ≡ getD t i 0
+  front-byte i h =
+      sym (getD-take (imageLength k) s i 0 h) ∙ ap (λ (u : List ℕ). getD u i 0) e ∙ getD-take (imageLength k) t i 0 h
+
+  part-there : (j : ℕ) → j < 2 ^ k → shownPart k s j ≡ shownPart k t j
+  part-there j h =
+      let long = shown-length k s j p l h in
+      let same : length (shownPart k s j) ≡ length (shownPart k t j) = long ∙ sym (shown-length k t j p m h) in
+      ext-getD 0 (shownPart k s j) (shownPart k t j) same
+      (λ i q.
+      shown-bytes k s j p l h i q
+      ∙ front-byte (firstByte (wordWidth k) j + i)
+      (omega (arith, q, long, span-within (wordWidth k) (wordCount k) j (omega arith) h, byte-count k (p .0)))
+      ∙ sym (shown-bytes k t j p m h i (omega (arith, q, same))))
+
+  pub front-part : (j : ℕ) → shownPart k s j ≡ shownPart k t j
+  front-part j =
+      ⊎-elim (part-there j)
+      (λ n. shown-empty k s j .1 (λ r. omega (arith, n, r .2)) ∙ sym (shown-empty k t j .1 (λ r. omega (arith, n, r .2))))
+      (below-or-not j (2 ^ k))

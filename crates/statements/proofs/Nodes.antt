@@ -47,3 +47,16 @@ zero-right k s e = e ∙ sym (stored-word-first k)
 
 pub zero-wrong : (k : ℕ) (s : List ℕ) (j : ℕ) → 0 < j → j < 2 ^ k → wordOf k s j ≡ 0 → IsRightAt k s j → ⊥
 zero-wrong k s j h l e r = omega (arith, node-above k j l, sym e ∙ r ∙ stored-word-between k j h l)
+
+-- the answer of reading node 0 by its word
+pub zero-node : (k : ℕ) (s : List ℕ) → IsPrecision k → IsLongEnough k s → (wordOf k s 0 ≡ 0) ↔ (nodeOutcome k s 0 ≡ served (2 ^ (2 * k + 3)))
+zero-node k s p l = (to, from)
+  where
+    to : wordOf k s 0 ≡ 0 → nodeOutcome k s 0 ≡ served (2 ^ (2 * k + 3))
+    to e =
+        let right = zero-right k s e in
+        kept-answer k s (nodeRefusal k 0 ∷ wordRefusal k s 0 ∷ []) (decode k 0 (wordOf k s 0)) p l
+        ∙ node-right k s 0 (decode k 0 (wordOf k s 0)) (pow-pos k) (right-not-wrong k s 0 right)
+        ∙ ap served (served-decodes k s 0 (omega arith) (λ h. right) ∙ node-first k)
+    from : nodeOutcome k s 0 ≡ served (2 ^ (2 * k + 3)) → wordOf k s 0 ≡ 0
+    from e = node-number-0 k s 0 (decode k 0 (wordOf k s 0)) .0 (later-number k s (nodeRefusal k 0 ∷ wordRefusal k s 0 ∷ []) (decode k 0 (wordOf k s 0)) 0 tt tt .0 (ap (λ (o : Outcome). o .number) e) .1 .1) .1 (pow-pos k) ∙ stored-word-first k
