@@ -1,10 +1,10 @@
--- The printed table of document 01, and inputs at the limits of an order, as the definitions compute them.
+-- The printed table of document 01, and inputs at the limits of a request, as the definitions compute them.
 -- Assumes nothing.
 use mathlib.Core.Path.{_≡_, refl}
 use mathlib.Core.List.{[], _∷_}
 use Rattle.decimal.specs.Decimal.{digits, decimal}
 use Rattle.quotient.specs.Quotient.{roundedUp}
-use Rattle.table_text.specs.TableText.{precisionOf, field, line, lines, header, tableText, refusedText}
+use Rattle.table_text.specs.TableText.{precisionOf, field, line, lines, header, tableOf, tableText, refusedText}
 
 -- "2" and a line feed
 table-of-2 :
@@ -16,7 +16,7 @@ table-of-2 :
     ∷ 51 ∷ 32 ∷ 55 ∷ 52 ∷ 32 ∷ 49 ∷ 48 ∷ 10
     ∷ 52 ∷ 32 ∷ 54 ∷ 52 ∷ 32 ∷ 45 ∷ 10
     ∷ []
-unfolding precisionOf digits decimal roundedUp field line lines header tableText
+unfolding precisionOf digits decimal roundedUp field line lines header tableOf tableText
 table-of-2 = refl
 
 -- "13" and a line feed, and "2" without one
@@ -28,7 +28,7 @@ refused-open : tableText (50 ∷ []) ≡ refusedText
 unfolding precisionOf tableText
 refused-open = refl
 
--- nine digits are an order, leading zeros allowed; ten are not
+-- nine digits are a request, leading zeros allowed; ten are not
 nine-digits : precisionOf (48 ∷ 48 ∷ 48 ∷ 48 ∷ 48 ∷ 48 ∷ 48 ∷ 49 ∷ 50 ∷ 10 ∷ []) ≡ 12
 unfolding precisionOf
 nine-digits = refl

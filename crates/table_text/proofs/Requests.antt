@@ -1,4 +1,4 @@
--- What an input orders, by its cases, and that eleven bytes of it settle it.
+-- What an input requests, by its cases, and that eleven bytes of it settle it.
 -- Assumes nothing.
 use mathlib.Core.Path.{_≡_, refl, sym, ap, _∙_}
 use mathlib.Core.Bool.{Bool, true, false}
@@ -16,47 +16,47 @@ use Rattle.decimal.proofs.Laws.{reading-number, reading-other, is-all, value-be
 use Rattle.table_text.specs.TableText.{body, precisionOf}
 
 module _ (s : List ℕ) where
-  pub order-short : length s < 2 → precisionOf s ≡ 0
+  pub request-short : length s < 2 → precisionOf s ≡ 0
   unfolding precisionOf
-  order-short h = rw (lt-leb 2 (length s) h)
+  request-short h = rw (lt-leb 2 (length s) h)
 
-  pub order-long : 10 < length s → precisionOf s ≡ 0
+  pub request-long : 10 < length s → precisionOf s ≡ 0
   unfolding precisionOf
-  order-long h = rw (le-leb 2 (length s) (omega arith), lt-leb (length s) 10 h)
+  request-long h = rw (le-leb 2 (length s) (omega arith), lt-leb (length s) 10 h)
 
   -- two to ten bytes
   module _ (low : 2 ≤ length s) (high : length s ≤ 10) where
-    pub order-open : (getD s (length s - 1) 0 ≡ 10 → ⊥) → precisionOf s ≡ 0
+    pub request-open : (getD s (length s - 1) 0 ≡ 10 → ⊥) → precisionOf s ≡ 0
     unfolding precisionOf
-    order-open h = rw (le-leb 2 (length s) low, le-leb (length s) 10 high, ne-eqb (getD s (length s - 1) 0) 10 h)
+    request-open h = rw (le-leb 2 (length s) low, le-leb (length s) 10 high, ne-eqb (getD s (length s - 1) 0) 10 h)
 
     -- that end in a line feed
     module _ (ends : getD s (length s - 1) 0 ≡ 10) where
       body-length : length (body s) ≤ 9
       body-length = rw (length-take-le (length s - 1) s (omega arith)) (omega arith)
 
-      pub order-number : (k : ℕ) → reading (body s) ≡ Number k → precisionOf s ≡ k
+      pub request-number : (k : ℕ) → reading (body s) ≡ Number k → precisionOf s ≡ k
       unfolding precisionOf
-      order-number k e =
+      request-number k e =
           rw (le-leb 2 (length s) low, le-leb (length s) 10 high, eq-eqb (getD s (length s - 1) 0) 10 ends, reading-number (body s) k e .0)
           (reading-number (body s) k e .1)
 
-      pub order-small : (k : ℕ) → reading (body s) ≡ Number k → k < 10 ^ 9
-      order-small k e =
+      pub request-small : (k : ℕ) → reading (body s) ≡ Number k → k < 10 ^ 9
+      request-small k e =
           let r = reading-number (body s) k e in
           omega (arith, r .1, value-below (body s) (is-all (body s) (r .0)), pow-le-pow-right {n = 10} (omega arith) body-length)
 
-      pub order-other : reading (body s) ≡ Other → precisionOf s ≡ 0
+      pub request-other : reading (body s) ≡ Other → precisionOf s ≡ 0
       unfolding precisionOf
-      order-other e =
+      request-other e =
           rw (le-leb 2 (length s) low, le-leb (length s) 10 high, eq-eqb (getD s (length s - 1) 0) 10 ends, reading-other (body s) (omega (arith, body-length)) e)
 
--- eleven bytes or more of an input order what all of it orders
-pub order-prefix : (n : ℕ) (s : List ℕ) → 11 ≤ n → precisionOf (take n s) ≡ precisionOf s
-order-prefix n s h = go (leb (length s) n) refl
+-- eleven bytes or more of an input request what all of it requests
+pub request-prefix : (n : ℕ) (s : List ℕ) → 11 ≤ n → precisionOf (take n s) ≡ precisionOf s
+request-prefix n s h = go (leb (length s) n) refl
   where
     go : (x : Bool) → leb (length s) n ≡ x → precisionOf (take n s) ≡ precisionOf s
     go true e = ap precisionOf (take-all n s (leb-true (length s) n e))
     go false e =
         let l : n < length s = leb-false (length s) n e in
-        order-long (take n s) (rw (length-take-le n s (omega arith)) (omega arith)) ∙ sym (order-long s (omega arith))
+        request-long (take n s) (rw (length-take-le n s (omega arith)) (omega arith)) ∙ sym (request-long s (omega arith))
