@@ -11,12 +11,12 @@ digits zero n = []
 digits (suc d) n = cond (ltb n 10) ((48 + n) ∷ []) (digits d (n / 10) ++ ((48 + n % 10) ∷ []))
 
 -- the most digits that a number of 64 bits has
-abbrev pub longest : ℕ
-longest = 20
+abbrev pub mostDigits : ℕ
+mostDigits = 20
 
--- the digits of n, "0" for 0
+-- the digits of n, "0" for 0; every n below 10^20 has all of them here, a larger one its lowest 20
 unfoldable pub decimal : ℕ → List ℕ
-decimal n = digits longest n
+decimal n = digits mostDigits n
 
 -- b is the byte of a digit, "0" to "9"
 abbrev pub isDigit : ℕ → Bool

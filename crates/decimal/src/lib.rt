@@ -3,7 +3,7 @@ ghost use mathlib.Core.Path.{_≡_};
 ghost use Prim.Native.Nat.{_+_, _≤_};
 ghost use lib.ListN.{length};
 ghost use Rattle.decimal.specs.Text.{written, putInto, placeAfter};
-ghost use Rattle.decimal.specs.Decimal.{decimal, longest};
+ghost use Rattle.decimal.specs.Decimal.{decimal, mostDigits};
 ghost use Rattle.decimal.specs.Reading.{reading};
 
 // What reading a number finds: digits that stand for a number below 2^64, or anything else.
@@ -13,7 +13,7 @@ pub enum Reading {
 }
 
 // The most digits that a number of 64 bits has.
-pub const LONGEST: usize = 20;
+pub const MOST_DIGITS: usize = 20;
 
 // Reads all of s as digits. Other where s is empty, has another byte, or stands for 2^64 or more.
 pub fn read(s: &[u8]) -> Reading
@@ -26,17 +26,21 @@ pub fn read(s: &[u8]) -> Reading
     let mut at: usize = 0;
     while at < s.len() {
         let b = s[at];
-        if b < 48 {
+        if b < b'0' {
             return Reading::Other;
         }
-        if 57 < b {
+        if b'9' < b {
             return Reading::Other;
         }
-        let digit = (b - 48) as u64;
-        if (18446744073709551615 - digit) / 10 < value {
+        let digit = (b - b'0') as u64;
+        if 1844674407370955161 < value {
             return Reading::Other;
         }
-        value = value * 10 + digit;
+        let tens = value * 10;
+        if 18446744073709551615 - digit < tens {
+            return Reading::Other;
+        }
+        value = tens + digit;
         at += 1;
     }
     Reading::Number(value)
@@ -49,25 +53,25 @@ fn put_digits(out: &mut [u8], at: usize, n: u64) -> usize
     ensures { λ r. ⌜ now (out .exit) ≡ written (now (out .entry)) at (decimal n) ⌝ }
 {
     if n < 10 {
-        out[at] = (48 + n) as u8;
+        out[at] = b'0' + n as u8;
         return at + 1;
     }
     let last = put_digits(out, at, n / 10);
-    out[last] = (48 + n % 10) as u8;
+    out[last] = b'0' + (n % 10) as u8;
     last + 1
 }
 
-// Writes the digits of n at `at` and gives the place after them. With fewer than LONGEST bytes from `at` to the end it writes
+// Writes the digits of n at `at` and gives the place after them. With fewer than MOST_DIGITS bytes from `at` to the end it writes
 // nothing and gives `at`.
 pub fn put(out: &mut [u8], at: usize, n: u64) -> usize
-    ensures { λ r. ⌜ r ≡ placeAfter (now (out .entry)) at longest (decimal n) ⌝ }
-    ensures { λ r. ⌜ now (out .exit) ≡ putInto (now (out .entry)) at longest (decimal n) ⌝ }
-    ensures { λ r. do ⌜ (← ⟦LONGEST⟧ .entry) ≡ longest ⌝ }
+    ensures { λ r. ⌜ r ≡ placeAfter (now (out .entry)) at mostDigits (decimal n) ⌝ }
+    ensures { λ r. ⌜ now (out .exit) ≡ putInto (now (out .entry)) at mostDigits (decimal n) ⌝ }
+    ensures { λ r. do ⌜ (← ⟦MOST_DIGITS⟧ .entry) ≡ mostDigits ⌝ }
 {
-    if out.len() < LONGEST {
+    if out.len() < MOST_DIGITS {
         return at;
     }
-    if out.len() - LONGEST < at {
+    if out.len() - MOST_DIGITS < at {
         return at;
     }
     put_digits(out, at, n)

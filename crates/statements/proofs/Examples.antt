@@ -1,11 +1,13 @@
--- The set examples of document 01 that are marked P hold of the definitions that the contracts cite: one statement for the whole table,
--- by computation.
+-- The set examples of document 01 that are marked P, and its printed table, hold of the definitions that the contracts cite: one statement
+-- for each whole table, by computation.
 -- Assumes nothing.
 use mathlib.Core.Path.{refl}
 use Rattle.quotient.specs.Quotient.{roundedUp}
 use Rattle.packing.specs.Packing.{wordAt}
 use Rattle.image.specs.Lowest.{lowest}
-use Rattle.statements.specs.Examples.{imageExamples, ImageHolds, Each}
+use Rattle.decimal.specs.Decimal.{digits, decimal}
+use Rattle.table_text.specs.TableText.{precisionOf, field, line, lines, header, tableOf, tableText}
+use Rattle.statements.specs.Examples.{imageExamples, ImageHolds, textExamples, TextHolds, Each}
 
 pub images-hold : Each ImageHolds imageExamples
 unfolding roundedUp wordAt lowest
@@ -13,3 +15,7 @@ images-hold = (
   record { built = refl; read = refl; passes = refl },
   (record { built = refl; read = refl; passes = refl }, (record { built = refl; read = refl; passes = refl }, tt)),
 )
+
+pub texts-hold : Each TextHolds textExamples
+unfolding precisionOf digits decimal roundedUp field line lines header tableOf tableText
+texts-hold = (refl, (refl, (refl, tt)))

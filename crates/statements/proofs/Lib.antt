@@ -8,4 +8,5 @@ pub mod Nodes
 pub mod Built
 pub mod Depends
 pub mod Parts
-pub mod Orders
+pub mod Requests
+pub mod Lines

@@ -1,39 +1,58 @@
 -- The printed table (document 01). "The program reads standard input: a precision in 1 to 9 decimal digits, leading zeros allowed, then
--- one line feed and no more. Other input counts as precision 0."
+-- one line feed and no more. Other input counts as precision 0. Each printed line ends in a line feed."
 --
--- tableText is the definition that the promise of `table_text::print` cites; digits are bytes.
+-- tableText is the definition that the promise of `table_text::print` cites; digits are bytes. The text that document 01 gives in full is
+-- in specs/Examples.antt.
 use mathlib.Core.Path.{_≡_}
 use mathlib.Core.Bool.{true}
-use mathlib.Core.List.{List, [], _∷_, _++_}
+use mathlib.Core.List.{List, [], _∷_, _++_, List·Memᴰ}
 use Prim.Native.Nat.{ℕ, _+_, _^_, _≤_, _<_}
 use lib.ListN.{length, take}
 use Rattle.decimal.specs.Decimal.{decimal, isDigits, decimalValue}
 use Rattle.precision.proofs.Range.{range-in}
-use Rattle.table_text.specs.TableText.{precisionOf, lines, header, tableText, refusedText, longestText, lineFeed}
-use Rattle.table_text.proofs.LineLaws.{text-refused, text-table}
+use Rattle.table_text.specs.TableText.{precisionOf, line, lines, header, tableText, refusedText, longestText, lineFeed}
 use Rattle.table_text.proofs.Sizes.{text-fits}
 use Rattle.statements.specs.Terms.{IsPrecision}
-use Rattle.statements.proofs.Orders
+use Rattle.statements.proofs.Lines
+use Rattle.statements.proofs.Requests
 
--- 1 to 9 digits and a line feed order the number that the digits stand for
-pub digits-order : (d : List ℕ) → isDigits d ≡ true → length d ≤ 9 → precisionOf (d ++ lineFeed ∷ []) ≡ decimalValue d
-digits-order = Orders.order-of-digits
+-- 1 to 9 digits and a line feed request the number that the digits stand for
+pub digits-request : (d : List ℕ) → isDigits d ≡ true → length d ≤ 9 → precisionOf (d ++ lineFeed ∷ []) ≡ decimalValue d
+digits-request = Requests.request-of-digits
 
--- a number below 10^9 in decimal orders that number
-pub number-orders : (n : ℕ) → n < 10 ^ 9 → precisionOf (decimal n ++ lineFeed ∷ []) ≡ n
-number-orders = Orders.order-of-number
+-- a number below 10^9 in decimal requests that number
+pub number-requests : (n : ℕ) → n < 10 ^ 9 → precisionOf (decimal n ++ lineFeed ∷ []) ≡ n
+number-requests = Requests.request-of-number
+
+-- input that does not count as precision 0 is 1 to 9 digits and a line feed, and counts as the number that the digits stand for
+pub request-digits : (s : List ℕ) → (precisionOf s ≡ 0 → ⊥) → (d : List ℕ) × (isDigits d ≡ true) × (length d ≤ 9) × (s ≡ d ++ lineFeed ∷ []) × (precisionOf s ≡ decimalValue d)
+request-digits = Requests.request-is-digits
 
 -- where the precision is in range, the first line and then the lines of nodes 0 to 2^k are printed
 pub prints-table : (s : List ℕ) → IsPrecision (precisionOf s) → tableText s ≡ header (precisionOf s) ++ lines (precisionOf s) (2 ^ precisionOf s + 1)
-prints-table s p = text-table s (range-in (precisionOf s) (p .0) (p .1))
+prints-table s p = Requests.text-in-range s (range-in (precisionOf s) (p .0) (p .1))
 
 -- and where it is not, the refusal
 pub prints-refusal : (s : List ℕ) → (IsPrecision (precisionOf s) → ⊥) → tableText s ≡ refusedText
-prints-refusal s f = text-refused s (Orders.out-of-range (precisionOf s) f)
+prints-refusal = Requests.text-out-of-range
+
+-- so input that is not 1 to 9 digits and a line feed is refused
+pub other-input : (s : List ℕ) → ((d : List ℕ) → isDigits d ≡ true → length d ≤ 9 → s ≡ d ++ lineFeed ∷ [] → ⊥) → tableText s ≡ refusedText
+other-input = Requests.text-of-other
+
+-- each printed line ends in a line feed and has no other: the line of a node, the first line, the refusal
+pub node-line : (k j : ℕ) → (t : List ℕ) × (line k j ≡ t ++ lineFeed ∷ []) × (List·Memᴰ lineFeed t → ⊥)
+node-line = Lines.line-of-node
+
+pub first-line : (k : ℕ) → (t : List ℕ) × (header k ≡ t ++ lineFeed ∷ []) × (List·Memᴰ lineFeed t → ⊥)
+first-line = Lines.line-of-header
+
+pub refusal-line : (t : List ℕ) × (refusedText ≡ t ++ lineFeed ∷ []) × (List·Memᴰ lineFeed t → ⊥)
+refusal-line = Lines.line-of-refusal
 
 -- eleven bytes settle what is printed, so input longer than any buffer needs no more
 pub prefix-settles : (n : ℕ) (s : List ℕ) → 11 ≤ n → tableText (take n s) ≡ tableText s
-prefix-settles = Orders.text-of-prefix
+prefix-settles = Requests.text-of-prefix
 
 -- every text fits the buffer that is asked for
 pub text-has-room : (s : List ℕ) → length (tableText s) ≤ longestText

@@ -1,4 +1,5 @@
--- The set examples of document 01 that are marked P, as literals, and what each says of the definitions that the contracts cite.
+-- The set examples of document 01 that are marked P and its printed table, as literals, and what each says of the definitions that the
+-- contracts cite.
 -- Assumes nothing.
 use mathlib.Core.Path.{_≡_}
 use mathlib.Core.List.{List, [], _∷_, _++_, map}
@@ -6,6 +7,7 @@ use Prim.Native.Nat.{ℕ, zero, suc}
 use lib.ListN.{length, replicate}
 use Rattle.answers.specs.Refusal.{Outcome, served}
 use Rattle.image.specs.Calls.{buildLeaves, checkOutcome, nodeOutcome}
+use Rattle.table_text.specs.TableText.{tableText}
 
 -- a precision, its nodes 0 to 2^k and its image
 pub record ImageExample : Type 0 where
@@ -34,6 +36,37 @@ pub record ImageHolds (e : ImageExample) : Type 0 where
   pub built : buildLeaves (e .k) (replicate (length (e .bytes)) 255) ≡ e .bytes
   pub read : readNodes (e .k) (e .bytes) (length (e .nodes)) ≡ map served (e .nodes)
   pub passes : checkOutcome (e .k) (e .bytes) ≡ served 0
+
+-- an input and the text that is printed for it, as bytes
+pub record TextExample : Type 0 where
+  pub input : List ℕ
+  pub text : List ℕ
+
+-- the table that document 01 prints in full, for "2" and a line feed, line by line as it stands there
+abbrev pub textOf2 : List ℕ
+textOf2 =
+    112 ∷ 114 ∷ 101 ∷ 99 ∷ 105 ∷ 115 ∷ 105 ∷ 111 ∷ 110 ∷ 32 ∷ 50 ∷ 32 ∷ 98 ∷ 121 ∷ 116 ∷ 101 ∷ 115 ∷ 32 ∷ 51 ∷ 10
+    ∷ 48 ∷ 32 ∷ 49 ∷ 50 ∷ 56 ∷ 32 ∷ 48 ∷ 10
+    ∷ 49 ∷ 32 ∷ 49 ∷ 48 ∷ 51 ∷ 32 ∷ 51 ∷ 57 ∷ 10
+    ∷ 50 ∷ 32 ∷ 56 ∷ 54 ∷ 32 ∷ 50 ∷ 50 ∷ 10
+    ∷ 51 ∷ 32 ∷ 55 ∷ 52 ∷ 32 ∷ 49 ∷ 48 ∷ 10
+    ∷ 52 ∷ 32 ∷ 54 ∷ 52 ∷ 32 ∷ 45 ∷ 10
+    ∷ []
+
+-- "refused 1" and a line feed
+abbrev pub textRefused : List ℕ
+textRefused = 114 ∷ 101 ∷ 102 ∷ 117 ∷ 115 ∷ 101 ∷ 100 ∷ 32 ∷ 49 ∷ 10 ∷ []
+
+-- "2" and "13", each with a line feed, and "2" without one
+abbrev pub textExamples : List TextExample
+textExamples =
+    record { input = 50 ∷ 10 ∷ []; text = textOf2 }
+    ∷ record { input = 49 ∷ 51 ∷ 10 ∷ []; text = textRefused }
+    ∷ record { input = 50 ∷ []; text = textRefused }
+    ∷ []
+
+abbrev pub TextHolds : TextExample → Type 0
+TextHolds e = tableText (e .input) ≡ e .text
 
 -- what holds of each row of a table
 abbrev pub Each : {A : Type 0} → (A → Type 0) → List A → Type 0

@@ -1,4 +1,4 @@
 pub mod Sizes
-pub mod Orders
+pub mod Requests
 pub mod LineLaws
 mod Examples

@@ -17,7 +17,7 @@ use Rattle.precision.proofs.Range.{in-range}
 use Rattle.quotient.specs.Quotient.{roundedUp}
 use Rattle.quotient.proofs.Laws.{exact, antitone}
 use Rattle.nodes.specs.Nodes.{node, storedWord}
-use Rattle.table_text.specs.TableText.{field, wordField, line, lines, header, textFor, tableText, precisionOf, longestText, printedLength, space, lineFeed, hyphenText}
+use Rattle.table_text.specs.TableText.{field, wordField, line, lines, header, tableOf, tableText, refusedText, precisionOf, longestText, printedLength, space, lineFeed, hyphenText}
 
 -- the table of a precision has at most 4096 words
 pub count-most : (k : ℕ) → inRange k ≡ true → 2 ^ k ≤ 4096
@@ -87,10 +87,10 @@ header-most k e =
 
 -- every text fits the room that is asked for
 pub text-fits : (s : List ℕ) → length (tableText s) ≤ longestText
-unfolding tableText
+unfolding tableText tableOf
 text-fits s = go (inRange (precisionOf s)) refl
   where
-    go : (x : Bool) → inRange (precisionOf s) ≡ x → length (textFor x (precisionOf s)) ≤ longestText
+    go : (x : Bool) → inRange (precisionOf s) ≡ x → length (cond x (tableOf (precisionOf s)) refusedText) ≤ longestText
     go true e =
         let k = precisionOf s in
         rw length-append (omega (arith, header-most k e, count-most k e, lines-most k (2 ^ k + 1) e (omega arith)))

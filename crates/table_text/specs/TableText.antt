@@ -1,7 +1,7 @@
 -- The printed table (document 01, "The printed table").
 -- Assumes nothing.
 use Prim.Native.Nat.{ℕ, zero, suc, _+_, _-_, _*_, _^_}
-use mathlib.Core.Bool.{Bool, true, false, cond, _&&_}
+use mathlib.Core.Bool.{Bool, cond, _&&_}
 use mathlib.Core.List.{List, [], _∷_, _++_}
 use lib.Dec.{leb, eqb}
 use lib.ListN.{length, take, getD}
@@ -21,12 +21,12 @@ abbrev pub body : List ℕ → List ℕ
 body s = take (length s - 1) s
 
 -- the input is 1 to 9 digits, then one line feed and no more
-abbrev pub isOrder : List ℕ → Bool
-isOrder s = leb 2 (length s) && leb (length s) 10 && eqb (getD s (length s - 1) 0) lineFeed && isDigits (body s)
+abbrev pub isRequest : List ℕ → Bool
+isRequest s = leb 2 (length s) && leb (length s) 10 && eqb (getD s (length s - 1) 0) lineFeed && isDigits (body s)
 
--- the precision that the input orders; other input counts as 0
+-- the precision that the input requests; other input counts as 0
 unfoldable pub precisionOf : List ℕ → ℕ
-precisionOf s = cond (isOrder s) (decimalValue (body s)) 0
+precisionOf s = cond (isRequest s) (decimalValue (body s)) 0
 
 -- a number and the byte after it
 unfoldable pub field : ℕ → ℕ → List ℕ
@@ -51,11 +51,11 @@ lines k (suc n) = lines k n ++ line k n
 
 -- "precision "
 abbrev pub precisionText : List ℕ
-precisionText = 112 ∷ 114 ∷ 101 ∷ 99 ∷ 105 ∷ 115 ∷ 105 ∷ 111 ∷ 110 ∷ 32 ∷ []
+precisionText = 112 ∷ 114 ∷ 101 ∷ 99 ∷ 105 ∷ 115 ∷ 105 ∷ 111 ∷ 110 ∷ space ∷ []
 
 -- "bytes "
 abbrev pub bytesText : List ℕ
-bytesText = 98 ∷ 121 ∷ 116 ∷ 101 ∷ 115 ∷ 32 ∷ []
+bytesText = 98 ∷ 121 ∷ 116 ∷ 101 ∷ 115 ∷ space ∷ []
 
 -- the first line: the precision and the image length
 unfoldable pub header : ℕ → List ℕ
@@ -63,16 +63,15 @@ header k = precisionText ++ field k space ++ (bytesText ++ field (imageLength k)
 
 -- "refused 1" and a line feed
 abbrev pub refusedText : List ℕ
-refusedText = 114 ∷ 101 ∷ 102 ∷ 117 ∷ 115 ∷ 101 ∷ 100 ∷ 32 ∷ 49 ∷ 10 ∷ []
+refusedText = 114 ∷ 101 ∷ 102 ∷ 117 ∷ 115 ∷ 101 ∷ 100 ∷ space ∷ 49 ∷ lineFeed ∷ []
 
--- the table of k with the lines of nodes 0 to 2^k where k is in range, and the refusal where it is not
-abbrev pub textFor : Bool → ℕ → List ℕ
-textFor true k = header k ++ lines k (2 ^ k + 1)
-textFor false k = refusedText
+-- the table of k: its first line and the lines of nodes 0 to 2^k
+unfoldable pub tableOf : ℕ → List ℕ
+tableOf k = header k ++ lines k (2 ^ k + 1)
 
--- what is printed for an input
+-- what is printed for an input: the table of the precision that it requests, and the refusal where that is out of range
 unfoldable pub tableText : List ℕ → List ℕ
-tableText s = textFor (inRange (precisionOf s)) (precisionOf s)
+tableText s = cond (inRange (precisionOf s)) (tableOf (precisionOf s)) refusedText
 
 -- the room that is asked for before a text is written: 32 bytes for each of 4098 lines
 abbrev pub longestText : ℕ

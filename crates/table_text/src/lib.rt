@@ -10,7 +10,7 @@ ghost use Rattle.table_text.specs.TableText.{
   precisionOf,
   lineFeed,
   hyphenText,
-  textFor,
+  tableOf,
   space,
   field as fieldText,
   lines as linesText,
@@ -25,8 +25,8 @@ use precision::Precision;
 // The bytes that a buffer must have: every text fits.
 pub const LONGEST_TEXT: usize = 131136;
 
-// The precision that the input orders: 1 to 9 digits, then one line feed and no more. Other input counts as 0.
-fn ordered(input: &[u8]) -> Precision
+// The precision that the input requests: 1 to 9 digits, then one line feed and no more. Other input counts as 0.
+fn requested(input: &[u8]) -> Precision
     ensures { λ r. ⌜ r .0 ≡ precisionOf (now (input .entry)) ⌝ }
 {
     let n = input.len();
@@ -37,7 +37,7 @@ fn ordered(input: &[u8]) -> Precision
         return Precision(0);
     }
     let last = n - 1;
-    if input[last] != 10 {
+    if input[last] != b'\n' {
         return Precision(0);
     }
     let found = decimal::read(&input[..last]);
@@ -62,8 +62,8 @@ fn columns(out: &mut [u8], at: usize, j: u64, c: u64) -> usize
     requires { ⌜ at + 42 ≤ length (now out) ⌝ }
     ensures { λ r. ⌜ Wrote (now (out .entry)) at (fieldText j space ++ fieldText c space) r (now (out .exit)) ⌝ }
 {
-    let next = field(out, at, j, 32);
-    field(out, next, c, 32)
+    let next = field(out, at, j, b' ');
+    field(out, next, c, b' ')
 }
 
 // Writes the line of a node that has a word.
@@ -72,7 +72,7 @@ fn row(out: &mut [u8], at: usize, j: u64, c: u64, word: u64) -> usize
     ensures { λ r. ⌜ Wrote (now (out .entry)) at (fieldText j space ++ fieldText c space ++ fieldText word lineFeed) r (now (out .exit)) ⌝ }
 {
     let next = columns(out, at, j, c);
-    field(out, next, word, 10)
+    field(out, next, word, b'\n')
 }
 
 // Writes the line of the last node, which has no word.
@@ -98,25 +98,27 @@ fn header(out: &mut [u8], k: Precision) -> usize
     requires { ⌜ (inRange (k .0) ≡ true) × (longestText ≤ length (now out)) ⌝ }
     ensures { λ r. ⌜ Wrote (now (out .entry)) 0 (headerText (k .0)) r (now (out .exit)) ⌝ }
 {
-    let next = titled(out, 0, b"precision ", k.0 as u64, 32);
-    titled(out, next, b"bytes ", k.image_length() as u64, 10)
+    let next = titled(out, 0, b"precision ", k.0 as u64, b' ');
+    titled(out, next, b"bytes ", k.image_length() as u64, b'\n')
 }
 
-// Writes the lines of the nodes that have a word.
+// Writes the lines of the nodes that have a word. The word of a node is the lowest bits of its value.
 fn rows(out: &mut [u8], start: usize, k: Precision, count: u32) -> usize
     requires { ⌜ (inRange (k .0) ≡ true) × (count ≡ 2 ^ k .0) × (start ≤ 32) × (longestText ≤ length (now out)) ⌝ }
     ensures { λ r. ⌜ Wrote (now (out .entry)) start (linesText (k .0) count) r (now (out .exit)) ⌝ }
 {
+    let width = k.word_width() as u32;
     let mut at = start;
     let mut j: u32 = 0;
     while j < count {
-        at = row(out, at, j as u64, nodes::value(k, j).0, nodes::word(k, j));
+        let c = nodes::value(k, j).0;
+        at = row(out, at, j as u64, c, bits::low(c, width));
         j += 1;
     }
     at
 }
 
-// Writes the printed table of the precision that the input orders at the front of `out`, and gives its length. The bytes after it
+// Writes the printed table of the precision that the input requests at the front of `out`, and gives its length. The bytes after it
 // stay as found; with fewer than LONGEST_TEXT bytes all do, and the length is 0.
 pub fn print(input: &[u8], out: &mut [u8]) -> usize
     ensures { λ r. ⌜ r ≡ printedLength (now (input .entry)) (now (out .entry)) ⌝ }
@@ -126,7 +128,7 @@ pub fn print(input: &[u8], out: &mut [u8]) -> usize
     if out.len() < LONGEST_TEXT {
         return 0;
     }
-    let k = ordered(input);
+    let k = requested(input);
     if !k.in_range() {
         return decimal::put_text(out, 0, b"refused 1\n");
     }
@@ -136,7 +138,7 @@ pub fn print(input: &[u8], out: &mut [u8]) -> usize
 // Writes the table of a precision in range at the front of `out`, and gives its length.
 fn table(out: &mut [u8], k: Precision) -> usize
     requires { ⌜ (inRange (k .0) ≡ true) × (longestText ≤ length (now out)) ⌝ }
-    ensures { λ r. ⌜ Wrote (now (out .entry)) 0 (textFor true (k .0)) r (now (out .exit)) ⌝ }
+    ensures { λ r. ⌜ Wrote (now (out .entry)) 0 (tableOf (k .0)) r (now (out .exit)) ⌝ }
 {
     let count = k.word_count();
     let first = header(out, k);

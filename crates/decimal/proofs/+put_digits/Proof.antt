@@ -28,14 +28,6 @@ abbrev put-digits-below : ℕ → In 1 put-digits-kinds.ps
 put-digits-below t =
     and 1 put-digits-kinds.ps (falls 1 put-digits-kinds.ps _<_ μ-put-digits t) put-digits.Pre
 
-put-digits-add-out :
-    (t : ℕ) →
-    put-digits-lts.Need-add-out
-    (put-digits-below t, put-digits.Post)
-    (put-digits-at t)
-    put-digits.Post
-put-digits-add-out t c = omega arith
-
 put-digits-cast-out :
     (t : ℕ) →
     put-digits-lts.Need-cast-out
@@ -43,6 +35,14 @@ put-digits-cast-out :
     (put-digits-at t)
     put-digits.Post
 put-digits-cast-out t c = omega arith
+
+put-digits-add-out :
+    (t : ℕ) →
+    put-digits-lts.Need-add-out
+    (put-digits-below t, put-digits.Post)
+    (put-digits-at t)
+    put-digits.Post
+put-digits-add-out t c = omega arith
 
 put-digits-slice-write-out : (t : ℕ) → put-digits-lts.Need-slice-write-out (
   put-digits-below t,
@@ -82,17 +82,17 @@ put-digits-put-digits-requires t c κs =
     let a = c .before .before .before .args in
     (omega arith, omega (arith, length-large (a .n) (c .before .if1 .left) (omega arith)))
 
-put-digits-add-out-2 : (t : ℕ) → put-digits-lts.Need-add-out-2 (
-  put-digits-below t,
-  put-digits.Post,
-) (put-digits-at t) put-digits.Post
-put-digits-add-out-2 t c = omega arith
-
 put-digits-cast-out-2 : (t : ℕ) → put-digits-lts.Need-cast-out-2 (
   put-digits-below t,
   put-digits.Post,
 ) (put-digits-at t) put-digits.Post
 put-digits-cast-out-2 t c = omega arith
+
+put-digits-add-out-2 : (t : ℕ) → put-digits-lts.Need-add-out-2 (
+  put-digits-below t,
+  put-digits.Post,
+) (put-digits-at t) put-digits.Post
+put-digits-add-out-2 t c = omega arith
 
 put-digits-slice-write-out-2 : (t : ℕ) → put-digits-lts.Need-slice-write-out-2 (
   put-digits-below t,
@@ -143,15 +143,15 @@ pub +put-digits-spec : {M : Type 1} → statement M
 )
     (put-digits-at t)
     put-digits.Post
-    (put-digits-add-out t)
     (put-digits-cast-out t)
+    (put-digits-add-out t)
     (put-digits-slice-write-out t)
     (put-digits-add-result t)
     (put-digits-same-length t)
     (put-digits-returns t)
     (put-digits-put-digits-requires t)
-    (put-digits-add-out-2 t)
     (put-digits-cast-out-2 t)
+    (put-digits-add-out-2 t)
     (put-digits-slice-write-out-2 t)
     (put-digits-add-result-2 t)
     (put-digits-same-length-2 t)

@@ -39,9 +39,6 @@ returns-3 c =
 cast-digit : tie.Need-cast-digit Inv-loop μ-loop
 cast-digit c = omega arith
 
-sub-if4 : tie.Need-sub-if4 Inv-loop μ-loop
-sub-if4 c = omega arith
-
 returns-4 : tie.Need-returns-4 Inv-loop μ-loop
 returns-4 c =
     let l = c .before .before .before .before .before .loop in
@@ -49,8 +46,18 @@ returns-4 c =
     ∙ at-over (c .before .before .before .before .before .before .before .args .s .now) (l .value) (l .at)
     (c .before .before .before .before .loop-test .taken) (omega arith) (omega arith) (omega arith))
 
-mul-value : tie.Need-mul-value Inv-loop μ-loop
-mul-value c = omega arith
+mul-tens : tie.Need-mul-tens Inv-loop μ-loop
+mul-tens c = omega arith
+
+sub-if5 : tie.Need-sub-if5 Inv-loop μ-loop
+sub-if5 c = omega arith
+
+returns-5 : tie.Need-returns-5 Inv-loop μ-loop
+returns-5 c =
+    let l = c .before .before .before .before .before .before .loop in
+    sym (l .inv .2
+    ∙ at-over (c .before .before .before .before .before .before .before .before .args .s .now) (l .value) (l .at)
+    (c .before .before .before .before .before .loop-test .taken) (omega arith) (omega arith) (omega arith))
 
 add-value : tie.Need-add-value Inv-loop μ-loop
 add-value c = omega arith
@@ -63,16 +70,16 @@ loop-less c = omega arith
 
 loop-again : tie.Need-loop-again Inv-loop μ-loop
 loop-again c =
-    let l = c .before .before .before .before .before .loop in (
+    let l = c .before .before .before .before .before .before .loop in (
       omega arith,
       omega arith,
       l .inv .2
-          ∙ at-digit (c .before .before .before .before .before .before .before .args .s .now) (l .value) (l .at)
-          (c .before .before .before .before .loop-test .taken) (omega arith) (omega arith),
+          ∙ at-digit (c .before .before .before .before .before .before .before .before .args .s .now) (l .value) (l .at)
+          (c .before .before .before .before .before .loop-test .taken) (omega arith) (omega arith),
     )
 
-returns-5 : tie.Need-returns-5 Inv-loop μ-loop
-returns-5 c =
+returns-6 : tie.Need-returns-6 Inv-loop μ-loop
+returns-6 c =
     let l = c .before .loop in
     sym (l .inv .2 ∙ at-end (c .before .before .before .args .s .now) (l .value) (l .at) (c .loop-test .left) (l .inv .1))
 
@@ -88,11 +95,12 @@ read-spec =
     returns-2
     returns-3
     cast-digit
-    sub-if4
     returns-4
-    mul-value
+    mul-tens
+    sub-if5
+    returns-5
     add-value
     add-at
     loop-less
     loop-again
-    returns-5)
+    returns-6)

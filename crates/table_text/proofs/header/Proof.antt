@@ -1,4 +1,4 @@
--- `table_text::header` meets its contract: two titles with their numbers; in range the length that is ordered is the image length.
+-- `table_text::header` meets its contract: two titles with their numbers; in range the length that the precision gives is the image length.
 -- Assumes nothing.
 use mathlib.Core.Path.{_≡_, _∙_}
 use native.Mathlib.Omega.{arith}
@@ -36,8 +36,8 @@ returns : tie.Need-returns
 unfolding header
 returns c =
     let a = c .before .before .before .before .before .before .before .before .before .before .before .before .before .args in
-    let ordered : orderedLength (a .k .0) ≡ imageLength (a .k .0) = rw (c .before .before .before .before .before .before .before .before .before .before .before .before .before .pre .0) in
-    let same : c .before .before .before .image-length .result ≡ imageLength (a .k .0) = c .before .before .before .image-length .ensures .0 ∙ ordered in
+    let inside : orderedLength (a .k .0) ≡ imageLength (a .k .0) = rw (c .before .before .before .before .before .before .before .before .before .before .before .before .before .pre .0) in
+    let same : c .before .before .before .image-length .result ≡ imageLength (a .k .0) = c .before .before .before .image-length .ensures .0 ∙ inside in
     wrote-more (omega (arith, field-most (a .k .0) space, c .before .before .before .before .before .before .before .before .before .before .before .before .before .pre .1)) (c .before .before .before .before .before .before .before .before .titled .ensures) (rw same at (c .before .before .titled2 .ensures))
 
 pub header-spec : {M : Type 1} → statement M

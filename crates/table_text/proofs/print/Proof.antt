@@ -18,8 +18,8 @@ unfolding printed printedLength
 returns c =
     rw (lt-leb longestText (length (c .before .before .before .args .out .now)) (omega arith)) (refl, (refl, refl))
 
-ordered-requires : tie.Need-ordered-requires
-ordered-requires c κs = search needs
+requested-requires : tie.Need-requested-requires
+requested-requires c κs = search needs
 
 in-range-requires : tie.Need-in-range-requires
 in-range-requires c κs = search needs
@@ -38,7 +38,7 @@ unfolding printed printedLength
 returns-2 c =
     let a = c .before .before .before .before .before .before .before .before .before .before .before .args in
     let shut : inRange (precisionOf (a .input .now)) ≡ false =
-    ap inRange (sym (c .before .before .before .before .before .before .before .ordered .ensures)) ∙ sym (c .before .before .before .before .before .before .in-range .ensures .0) ∙ not-true (c .before .before .before .before .before .before .in-range .result) (c .before .before .before .before .before .if2 .taken) in
+    ap inRange (sym (c .before .before .before .before .before .before .before .requested .ensures)) ∙ sym (c .before .before .before .before .before .before .in-range .ensures .0) ∙ not-true (c .before .before .before .before .before .before .in-range .result) (c .before .before .before .before .before .if2 .taken) in
     let w = wrote-room (a .out .now) 0 10 refusedText (omega arith) (c .before .before .put-text .ensures .0) (c .before .before .put-text .ensures .1) in
     rw (le-leb longestText (length (a .out .now)) (omega arith), text-refused (a .input .now) shut) (omega (arith, w .place), (w .bytes, refl))
 
@@ -54,16 +54,16 @@ unfolding printed printedLength
 returns-3 c =
     let a = c .before .before .before .before .before .before .before .before .before .before .args in
     let served : inRange (precisionOf (a .input .now)) ≡ true =
-    ap inRange (sym (c .before .before .before .before .before .before .ordered .ensures)) ∙ sym (c .before .before .before .before .before .in-range .ensures .0) ∙ not-false (c .before .before .before .before .before .in-range .result) (c .before .before .before .before .if2 .left) in
+    ap inRange (sym (c .before .before .before .before .before .before .requested .ensures)) ∙ sym (c .before .before .before .before .before .in-range .ensures .0) ∙ not-false (c .before .before .before .before .before .in-range .result) (c .before .before .before .before .if2 .left) in
     let w = c .before .before .table .ensures in
-    rw (le-leb longestText (length (a .out .now)) (omega arith), text-table (a .input .now) served, ← c .before .before .before .before .before .before .ordered .ensures) (omega (arith, w .place), (w .bytes, refl))
+    rw (le-leb longestText (length (a .out .now)) (omega arith), text-table (a .input .now) served, ← c .before .before .before .before .before .before .requested .ensures) (omega (arith, w .place), (w .bytes, refl))
 
 pub print-spec : {M : Type 1} → statement M
 print-spec =
     tie.close
     (tie.spec
     returns
-    ordered-requires
+    requested-requires
     in-range-requires
     slice-aggregate-put-text
     put-text-requires

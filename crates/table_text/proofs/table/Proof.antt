@@ -6,7 +6,7 @@ use native.Mathlib.Omega.{arith}
 use Rattle.decimal.specs.Text.{Wrote}
 use Rattle.decimal.proofs.Writing.{wrote-more}
 use Rattle.precision.proofs.Range.{ordered-words}
-use Rattle.table_text.specs.TableText.{lines}
+use Rattle.table_text.specs.TableText.{lines, tableOf}
 use Rattle.table_text.proofs.Sizes.{count-most, header-most, lines-most}
 use Rattle.table_text.proofs.LineLaws.{lines-more, line-last}
 use borrow.Author.Needs.{needs}
@@ -53,6 +53,7 @@ same-length : tie.Need-same-length
 same-length c = search needs
 
 returns : tie.Need-returns
+unfolding tableOf
 returns c =
     let k = c .before .before .before .before .before .before .before .before .before .before .before .before .before .before .before .args .k .0 in
     let e = c .before .before .before .before .before .before .before .before .before .before .before .before .before .before .before .pre .0 in
