@@ -8,8 +8,8 @@ use native.Mathlib.Omega.{arith}
 use lib.Dec.{ltb}
 use lib.ListN.{length}
 use borrow.Author.Tests.{ltb-false, le-ltb}
-use Rattle.precision.specs.Precision.{inRange, imageLength, orderedWords}
-use Rattle.precision.proofs.Range.{in-range, range-in, ordered-words}
+use Rattle.precision.specs.Precision.{inRange, imageLength, wordsOr0}
+use Rattle.precision.proofs.Range.{in-range, range-in, words-in-range}
 use Rattle.nodes.specs.Nodes.{numeratorOr0, leadOr0}
 use Rattle.answers.specs.Refusal.{Refusal, Outcome, outcome}
 use Rattle.image.specs.Refusals.{precisionRefusal, bufferRefusal, brokenLimit}
@@ -24,7 +24,7 @@ pub record Kept (k : ℕ) (s : List ℕ) : Type 0 where
   pub low : 1 ≤ k
   pub high : k ≤ 12
   pub long : imageLength k ≤ length s
-  pub words : orderedWords k ≡ 2 ^ k
+  pub words : wordsOr0 k ≡ 2 ^ k
   pub numerator : numeratorOr0 k ≡ 2 ^ (3 * k + 3)
   pub lead : leadOr0 k ≡ 2 ^ (2 * k + 2)
 
@@ -78,7 +78,7 @@ module _ (k : ℕ) (s : List ℕ) where
         low = in-range k (e .0) .0;
         high = in-range k (e .0) .1;
         long = ltb-false (length s) (imageLength k) (e .1);
-        words = ordered-words k (e .0);
+        words = words-in-range k (e .0);
         numerator = rw (e .0);
         lead = rw (e .0);
       }

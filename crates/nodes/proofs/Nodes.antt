@@ -8,7 +8,7 @@ use native.Mathlib.Omega.{arith}
 use lib.Dec.{ltb, eqb}
 use lib.Pow.{pow-pos, pow-lt}
 use borrow.Author.Tests.{eq-eqb, ne-eqb, eqb-true, ltb-true, le-leb, lt-leb, lt-ltb, le-ltb}
-use Rattle.precision.specs.Precision.{wordWidth, inRange, orderedWords}
+use Rattle.precision.specs.Precision.{wordWidth, inRange, wordsOr0}
 use Rattle.quotient.specs.Quotient.{roundedUp, roundsUp}
 use Rattle.quotient.proofs.Laws.{reaches, antitone}
 use Rattle.nodes.specs.Nodes.{node, storedWord, decodeUnder, decode, isRight, judged, nodeOr0}

@@ -24,9 +24,9 @@ wordWidth k = 2 * k + 2
 abbrev pub wordCount : ℕ → ℕ
 wordCount k = 2 ^ k
 
--- the words of the image that is ordered at k: none where k is no precision
-abbrev pub orderedWords : ℕ → ℕ
-orderedWords k = cond (inRange k) (wordCount k) 0
+-- the words of an image, and 0 where k is no precision
+abbrev pub wordsOr0 : ℕ → ℕ
+wordsOr0 k = cond (inRange k) (wordCount k) 0
 
 -- the bytes of an image: 2^k × (2k + 2) / 8
 abbrev pub imageLength : ℕ → ℕ
@@ -36,6 +36,6 @@ imageLength k = wordCount k * wordWidth k / 8
 abbrev pub longestImage : ℕ
 longestImage = imageLength greatest
 
--- the bytes of the image that is ordered at k: none where k is no precision
-abbrev pub orderedLength : ℕ → ℕ
-orderedLength k = cond (inRange k) (imageLength k) 0
+-- the bytes of an image, and 0 where k is no precision
+abbrev pub lengthOr0 : ℕ → ℕ
+lengthOr0 k = cond (inRange k) (imageLength k) 0

@@ -6,8 +6,8 @@ ghost use Rattle.precision.specs.Precision.{
   longestImage,
   inRange,
   wordWidth,
-  orderedWords,
-  orderedLength,
+  wordsOr0,
+  lengthOr0,
 };
 
 // A precision as it is ordered. Any number can be ordered; 1 to 12 are served.
@@ -46,7 +46,7 @@ impl Precision {
 
     // The words of the image, 2^k, and 0 where this is no precision.
     pub fn word_count(self) -> u32
-        ensures { λ r. ⌜ r ≡ orderedWords (self .0) ⌝ }
+        ensures { λ r. ⌜ r ≡ wordsOr0 (self .0) ⌝ }
     {
         let k = self.0;
         if !self.in_range() {
@@ -57,7 +57,7 @@ impl Precision {
 
     // The bytes of the image, 0 where this is no precision.
     pub fn image_length(self) -> usize
-        ensures { λ r. ⌜ r ≡ orderedLength (self .0) ⌝ }
+        ensures { λ r. ⌜ r ≡ lengthOr0 (self .0) ⌝ }
         ensures { λ r. do ⌜ (← ⟦Precision::LONGEST_IMAGE⟧ .entry) ≡ longestImage ⌝ }
     {
         let k = self.0;

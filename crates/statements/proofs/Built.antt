@@ -6,7 +6,7 @@ use mathlib.Core.List.{List, [], _∷_, append-nil}
 use Prim.Native.Nat.{ℕ, _+_, _*_, _%_, _^_, _≤_, _<_}
 use native.Mathlib.Nat.{le-of-eq}
 use native.Mathlib.Omega.{arith}
-use lib.ListN.{length, drop}
+use lib.ListN.{length, take, drop}
 use lib.Seq.{drop-at}
 use lib.Dec.{ltb, lit<}
 use borrow.Author.Tests.{le-ltb, ltb-true, ltb-false}

@@ -15,7 +15,7 @@ use Rattle.quotient.proofs.Laws.{reaches, least}
 use Rattle.packing.specs.Packing.{Bytes, bitAt, bitOfWord}
 use Rattle.answers.specs.Refusal.{served}
 use Rattle.image.specs.Image.{image, wordOf}
-use Rattle.image.specs.Calls.{buildLeaves, checkOutcome, nodeOutcome}
+use Rattle.image.specs.Calls.{buildLeaves, checkOutcome, nodeOutcome, shownPart}
 use Rattle.image.proofs.Laws.{whole-bytes, image-length, right-front, front-right}
 use Rattle.statements.specs.Terms.{IsPrecision, IsLongEnough, IsRightAt}
 use Rattle.statements.proofs.Iff.{joined}
@@ -61,6 +61,10 @@ module _ (k : ℕ) (p : IsPrecision k) where
   pub image-whole : 8 * (2 ^ k * (2 * k + 2) / 8) ≡ 2 ^ k * (2 * k + 2)
   image-whole = whole-bytes k (p .0)
 
+  -- the builder writes it at the front of the buffer, whatever stood there before: it reads none of it
+  pub built-front : (s : List ℕ) → IsLongEnough k s → take (imageLength k) (buildLeaves k s) ≡ image k
+  built-front s l = Built.front k s p l
+
   -- the words of a built image are c(j) modulo 2^(2k+2), whatever the buffer held before
   pub built-word : (s : List ℕ) → IsLongEnough k s → (j : ℕ) → j < 2 ^ k → wordOf k (buildLeaves k s) j ≡ node k j % 2 ^ (2 * k + 2)
   built-word s l j h = Built.built-words k s p l j h
@@ -95,14 +99,26 @@ module _ (k : ℕ) (s t : List ℕ) (l : IsLongEnough k s) (m : IsLongEnough k t
   pub check-by-words : ((j : ℕ) → j < 2 ^ k → wordOf k s j ≡ wordOf k t j) → checkOutcome k s ≡ checkOutcome k t
   check-by-words = Depends.check-same k s t l m
 
-  -- the word of node j stands in its own bytes, whatever follows the image and however long the buffers are
-  pub word-by-its-bytes : (j : ℕ) → ((i : ℕ) → j * (2 * k + 2) / 8 ≤ i → i ≤ (j * (2 * k + 2) + (2 * k + 2) - 1) / 8 → getD s i 0 ≡ getD t i 0) → wordOf k s j ≡ wordOf k t j
-  word-by-its-bytes j = Depends.word-same k s t j
+-- The word of node j stands in its own bytes.
+pub word-by-its-bytes : (k : ℕ) (s t : List ℕ) (j : ℕ) → ((i : ℕ) → j * (2 * k + 2) / 8 ≤ i → i ≤ (j * (2 * k + 2) + (2 * k + 2) - 1) / 8 → getD s i 0 ≡ getD t i 0) → wordOf k s j ≡ wordOf k t j
+word-by-its-bytes k s t j = Depends.word-same k s t j
 
--- A zero word means 2^(2k+3) at node 0; at any other node it is wrong.
+-- Bytes past the image are not read: two buffers with the same image at their front get the same answers, whatever follows it and
+-- however long they are.
+module _ (k : ℕ) (s t : List ℕ) (p : IsPrecision k) (l : IsLongEnough k s) (m : IsLongEnough k t) (e : take (imageLength k) s ≡ take (imageLength k) t) where
+  pub check-by-image : checkOutcome k s ≡ checkOutcome k t
+  check-by-image = Depends.front-check k s t p l m e
+
+  pub node-by-image : (j : ℕ) → nodeOutcome k s j ≡ nodeOutcome k t j
+  node-by-image = Depends.front-node k s t p l m e
+
+  pub part-by-image : (j : ℕ) → shownPart k s j ≡ shownPart k t j
+  part-by-image = Depends.front-part k s t p l m e
+
+-- A zero word means 2^(2k+3) at node 0. At any other node it is wrong.
 module _ (k : ℕ) (s : List ℕ) where
-  pub zero-word-first : wordOf k s 0 ≡ 0 → IsRightAt k s 0
-  zero-word-first = Nodes.zero-right k s
+  pub zero-word-first : IsPrecision k → IsLongEnough k s → (wordOf k s 0 ≡ 0) ↔ (nodeOutcome k s 0 ≡ served (2 ^ (2 * k + 3)))
+  zero-word-first = Nodes.zero-node k s
 
   pub zero-word-wrong : (j : ℕ) → 0 < j → j < 2 ^ k → wordOf k s j ≡ 0 → IsRightAt k s j → ⊥
   zero-word-wrong = Nodes.zero-wrong k s

@@ -12,8 +12,8 @@ use Rattle.statements.specs.Examples.{imageExamples, ImageHolds, textExa
 pub images-hold : Each ImageHolds imageExamples
 unfolding roundedUp wordAt lowest
 images-hold = (
-  record { built = refl; read = refl; passes = refl },
-  (record { built = refl; read = refl; passes = refl }, (record { built = refl; read = refl; passes = refl }, tt)),
+  record { answered = refl; built = refl; read = refl; passes = refl },
+  (record { answered = refl; built = refl; read = refl; passes = refl }, (record { answered = refl; built = refl; read = refl; passes = refl }, tt)),
 )
 
 pub texts-hold : Each TextHolds textExamples

@@ -1,8 +1,9 @@
 -- Facts of the nodes that the page of demand 2 cites: their bits, and what words stand for.
 -- Assumes nothing.
 use mathlib.Core.Path.{_≡_, refl, sym, _∙_, ap}
+use mathlib.Core.Logic.{_↔_}
 use mathlib.Core.Bool.{Bool, true, false}
-use mathlib.Core.List.{List}
+use mathlib.Core.List.{List, [], _∷_}
 use Prim.Native.Nat.{ℕ, _+_, _*_, _/_, _^_, _≤_, _<_}
 use native.Mathlib.Nat.{le-of-lt, le-of-eq, div-eq-of-lt-le}
 use native.Mathlib.Omega.{arith}
@@ -10,9 +11,15 @@ use lib.Pow.{pow-pos}
 use lib.Dec.{ltb}
 use borrow.Author.Tests.{ltb-true, ltb-false, eq-eqb}
 use Rattle.nodes.specs.Nodes.{node, decode, storedWord}
-use Rattle.nodes.proofs.Nodes.{decode-right, decode-last, node-above, node-below, node-last, lead-double, stored-word-first, stored-word-between}
+use Rattle.nodes.proofs.Nodes.{decode-right, decode-last, node-first, node-above, node-below, node-last, lead-double, stored-word-first, stored-word-between}
+use Rattle.answers.specs.Refusal.{Outcome, served}
 use Rattle.image.specs.Image.{wordOf}
-use Rattle.statements.specs.Terms.{IsRightAt}
+use Rattle.image.specs.Refusals.{nodeRefusal, wordRefusal}
+use Rattle.image.specs.Calls.{nodeOutcome}
+use Rattle.image.proofs.Laws.{right-not-wrong}
+use Rattle.image.proofs.Judging.{node-right}
+use Rattle.statements.specs.Terms.{IsPrecision, IsLongEnough, IsRightAt}
+use Rattle.statements.proofs.Numbers.{kept-answer, later-number, node-number-0}
 
 -- i = 2^k + j is never 0
 pub index-positive : (k j : ℕ) → 0 < 2 ^ k + j
@@ -58,5 +65,6 @@ zero-node k s p l = (to, from)
         kept-answer k s (nodeRefusal k 0 ∷ wordRefusal k s 0 ∷ []) (decode k 0 (wordOf k s 0)) p l
         ∙ node-right k s 0 (decode k 0 (wordOf k s 0)) (pow-pos k) (right-not-wrong k s 0 right)
         ∙ ap served (served-decodes k s 0 (omega arith) (λ h. right) ∙ node-first k)
+
     from : nodeOutcome k s 0 ≡ served (2 ^ (2 * k + 3)) → wordOf k s 0 ≡ 0
     from e = node-number-0 k s 0 (decode k 0 (wordOf k s 0)) .0 (later-number k s (nodeRefusal k 0 ∷ wordRefusal k s 0 ∷ []) (decode k 0 (wordOf k s 0)) 0 tt tt .0 (ap (λ (o : Outcome). o .number) e) .1 .1) .1 (pow-pos k) ∙ stored-word-first k

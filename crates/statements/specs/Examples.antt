@@ -6,7 +6,7 @@ use mathlib.Core.List.{List, [], _∷_, _++_, map}
 use Prim.Native.Nat.{ℕ, zero, suc}
 use lib.ListN.{length, replicate}
 use Rattle.answers.specs.Refusal.{Outcome, served}
-use Rattle.image.specs.Calls.{buildLeaves, checkOutcome, nodeOutcome}
+use Rattle.image.specs.Calls.{buildOutcome, buildLeaves, checkOutcome, nodeOutcome}
 use Rattle.table_text.specs.TableText.{tableText}
 
 -- a precision, its nodes 0 to 2^k and its image
@@ -31,8 +31,9 @@ abbrev pub readNodes : ℕ → List ℕ → ℕ → List Outcome
 readNodes k s zero = []
 readNodes k s (suc n) = readNodes k s n ++ (nodeOutcome k s n ∷ [])
 
--- a buffer of as many bytes as the image, all of them 255, is built to the image; its nodes are read back; it passes the check
+-- a buffer of as many bytes as the image, all of them 255, is served and built to the image; its nodes are read back; it passes the check
 pub record ImageHolds (e : ImageExample) : Type 0 where
+  pub answered : buildOutcome (e .k) (replicate (length (e .bytes)) 255) ≡ served 0
   pub built : buildLeaves (e .k) (replicate (length (e .bytes)) 255) ≡ e .bytes
   pub read : readNodes (e .k) (e .bytes) (length (e .nodes)) ≡ map served (e .nodes)
   pub passes : checkOutcome (e .k) (e .bytes) ≡ served 0

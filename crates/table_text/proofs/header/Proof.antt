@@ -2,7 +2,7 @@
 -- Assumes nothing.
 use mathlib.Core.Path.{_≡_, _∙_}
 use native.Mathlib.Omega.{arith}
-use Rattle.precision.specs.Precision.{imageLength, orderedLength}
+use Rattle.precision.specs.Precision.{imageLength, lengthOr0}
 use Rattle.decimal.proofs.Writing.{wrote-more}
 use Rattle.table_text.specs.TableText.{header, space}
 use Rattle.table_text.proofs.Sizes.{field-most}
@@ -36,7 +36,7 @@ returns : tie.Need-returns
 unfolding header
 returns c =
     let a = c .before .before .before .before .before .before .before .before .before .before .before .before .before .args in
-    let inside : orderedLength (a .k .0) ≡ imageLength (a .k .0) = rw (c .before .before .before .before .before .before .before .before .before .before .before .before .before .pre .0) in
+    let inside : lengthOr0 (a .k .0) ≡ imageLength (a .k .0) = rw (c .before .before .before .before .before .before .before .before .before .before .before .before .before .pre .0) in
     let same : c .before .before .before .image-length .result ≡ imageLength (a .k .0) = c .before .before .before .image-length .ensures .0 ∙ inside in
     wrote-more (omega (arith, field-most (a .k .0) space, c .before .before .before .before .before .before .before .before .before .before .before .before .before .pre .1)) (c .before .before .before .before .before .before .before .before .titled .ensures) (rw same at (c .before .before .titled2 .ensures))
 

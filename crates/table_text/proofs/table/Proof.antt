@@ -5,7 +5,7 @@ use Prim.Native.Nat.{_+_, _^_}
 use native.Mathlib.Omega.{arith}
 use Rattle.decimal.specs.Text.{Wrote}
 use Rattle.decimal.proofs.Writing.{wrote-more}
-use Rattle.precision.proofs.Range.{ordered-words}
+use Rattle.precision.proofs.Range.{words-in-range}
 use Rattle.table_text.specs.TableText.{lines, tableOf}
 use Rattle.table_text.proofs.Sizes.{count-most, header-most, lines-most}
 use Rattle.table_text.proofs.LineLaws.{lines-more, line-last}
@@ -23,7 +23,7 @@ rows-requires : tie.Need-rows-requires
 rows-requires c κs =
     let k = c .before .before .before .before .before .before .before .args .k .0 in
     let e = c .before .before .before .before .before .before .before .pre .0 in
-    (e, c .before .before .before .before .before .word-count .ensures ∙ ordered-words k e, omega (arith, c .before .before .before .header .ensures .place, header-most k e), omega (arith, c .before .before .before .header .kept .0, c .before .before .before .before .before .before .before .pre .1))
+    (e, c .before .before .before .before .before .word-count .ensures ∙ words-in-range k e, omega (arith, c .before .before .before .header .ensures .place, header-most k e), omega (arith, c .before .before .before .header .kept .0, c .before .before .before .before .before .before .before .pre .1))
 
 cast-last-row : tie.Need-cast-last-row
 cast-last-row c = search needs
@@ -35,7 +35,7 @@ last-row-requires : tie.Need-last-row-requires
 last-row-requires c κs =
     let k = c .before .before .before .before .before .before .before .before .before .before .before .before .args .k .0 in
     let e = c .before .before .before .before .before .before .before .before .before .before .before .before .pre .0 in
-    let count = c .before .before .before .before .before .before .before .before .before .before .word-count .ensures ∙ ordered-words k e in
+    let count = c .before .before .before .before .before .before .before .before .before .before .word-count .ensures ∙ words-in-range k e in
     omega (
       arith,
       c .before .before .before .before .rows .ensures .place,
@@ -57,7 +57,7 @@ unfolding tableOf
 returns c =
     let k = c .before .before .before .before .before .before .before .before .before .before .before .before .before .before .before .args .k .0 in
     let e = c .before .before .before .before .before .before .before .before .before .before .before .before .before .before .before .pre .0 in
-    let count : c .before .before .before .before .before .before .before .before .before .before .before .before .before .word-count .result ≡ 2 ^ k = c .before .before .before .before .before .before .before .before .before .before .before .before .before .word-count .ensures ∙ ordered-words k e in
+    let count : c .before .before .before .before .before .before .before .before .before .before .before .before .before .word-count .result ≡ 2 ^ k = c .before .before .before .before .before .before .before .before .before .before .before .before .before .word-count .ensures ∙ words-in-range k e in
     let most = lines-most k (c .before .before .before .before .before .before .before .before .before .before .before .before .before .word-count .result) e (omega (arith, count)) in
     let below : Wrote (c .before .before .before .before .before .before .before .before .before .before .before .header .last .0) (c .before .before .before .before .before .before .before .before .before .before .before .header .result) (lines k (c .before .before .before .before .before .before .before .before .before .before .before .before .before .word-count .result + 1)) (c .before .before .last-row .result) (c .before .before .last-row .last .0) =
     rw (lines-more k (c .before .before .before .before .before .before .before .before .before .before .before .before .before .word-count .result), ← line-last k (c .before .before .before .before .before .before .before .before .before .before .before .before .before .word-count .result) e count (c .before .before .before .value .ensures))

@@ -9,7 +9,7 @@ use lib.Pow.{pow-mono}
 use borrow.Author.Needs.{needs}
 use borrow.Author.Tests.{not-true, not-false}
 use Rattle.precision.specs.Precision.{inRange}
-use Rattle.precision.proofs.Range.{in-range, ordered-words}
+use Rattle.precision.proofs.Range.{in-range, words-in-range}
 use Rattle.precision.proofs.Precision.word_count.Statement.{statement}
 use Rattle.precision.proofs.Precision.word_count.Tie as tie
 
@@ -32,7 +32,7 @@ shl-result c = omega (arith, in-range (c .before .before .args .self .0) (ranged
 returns-2 : tie.Need-returns-2
 returns-2 c =
     let k = c .before .before .args .self .0 in
-    rw (one-mul (2 ^ k), ordered-words k (ranged c))
+    rw (one-mul (2 ^ k), words-in-range k (ranged c))
     (mod-eq-of-lt (omega (arith, pow-mono (in-range k (ranged c) .1))))
 
 pub word-count-spec : {M : Type 1} → statement M
