@@ -1,4 +1,4 @@
--- The test of a precision's range, the range in orders, and what the count of the ordered words says of k.
+-- The test of a precision's range, the range in numbers, and what the count of the words says of k.
 -- Assumes nothing.
 use mathlib.Core.Path.{_≡_, refl, sym, _∙_}
 use mathlib.Core.Bool.{Bool, true, false, cond, and-eq-true-iff}
