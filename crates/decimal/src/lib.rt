@@ -33,6 +33,7 @@ pub fn read(s: &[u8]) -> Reading
             return Reading::Other;
         }
         let digit = (b - b'0') as u64;
+        // Above 2^64 / 10 the tens alone reach 2^64; up to there the digit decides.
         if 1844674407370955161 < value {
             return Reading::Other;
         }
