@@ -1,2 +1,3 @@
-// The promises of the library as theorems, in the order of the demands: proofs/Demand1.antt and proofs/Demand2.antt are to be read
-// first. Each speaks of the definitions that the contracts of the calls cite. The set examples stand in specs/Examples.antt.
+// The promises of the library as theorems, in the order of the demands: proofs/Demand1.antt (refusals), proofs/Demand2.antt (nodes and
+// image) and proofs/Printed.antt (the printed table) are to be read first. Each speaks of the definitions that the contracts of the calls
+// cite. The set examples stand in specs/Examples.antt, and proofs/Examples.antt has the statement that covers them.
