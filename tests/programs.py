@@ -56,26 +56,28 @@ def printed_output():
 
 
 def random_line(rng):
-    """A line of a script: mostly small precisions, often an image, often slightly damaged, at any length."""
+    """A line of a script, or two: mostly small precisions, often an image, often slightly damaged, at any length."""
     k = rng.choice([0, 1, 1, 2, 2, 2, 3, 3, 4, 5, 6, 8, 12, 13, 4294967295])
     last = 2 ** k if k <= 12 else 4
     first = rng.choice([0, rng.randint(0, last), last - 1, last, last + 1, rng.randint(0, 2 ** 32 - 1)])
     to = min(first + rng.randint(0, 5), 2 ** 32 - 1)
     size = reference.LENGTHS[k - 1] if reference.in_range(k) else 4
     kind = rng.choice(["hex", "hex", "image", "image", "xor", "xor", "length", "length", "fill", "build", "check", "check", "node",
-                       "node", "word", "rule", "gather"])
+                       "node", "word", "rule", "gather", "precision", "show"])
     return {
         "hex": "hex " + " ".join(f"{rng.randrange(256):02X}" for _ in range(rng.randint(1, 9))),
-        "image": f"image {k}",
+        "image": f"length {size}\nbuild {k}",
         "xor": f"xor {rng.randrange(rng.choice([1, 3, 8, 20, 16384]))} {rng.choice([1, 2, 4, 8, 16, 32, 64, 128, 255])}",
         "length": f"length {rng.choice([0, max(size - 1, 0), size, size + 1, rng.randint(0, 40), 16384])}",
-        "fill": f"fill {rng.randrange(256)}",
-        "build": f"build {rng.choice([0, 1, 2, 3, 4, 13])}",
-        "check": f"check {k}",
+        "fill": f"fill {rng.randrange(256)} {rng.choice([0, 1, rng.randrange(256)])}",
+        "build": f"build {rng.choice([0, 1, 2, 3, 4, 13])}\ntotal",
+        "check": f"check {rng.choice([k, f'{k} {min(k + 3, 2 ** 32 - 1)}'])}",
         "node": f"node {first} {to} {k}",
         "word": f"word {first} {to} {k}",
         "rule": f"rule {first} {to} {k}",
-        "gather": f"gather {k} {min(last + 1, 300)}",
+        "gather": f"gather {k}",
+        "precision": f"precision {k}",
+        "show": "show" if rng.randrange(4) == 0 else "total",
     }[kind]
 
 
@@ -145,7 +147,7 @@ def in_base_2(text):
 def printed_rows(output):
     """The rows of Table 1 by the node values that stand below its heading in what `cases` prints."""
     part = output.decode().split("# Table 1 of document 002\n", 1)[1].split("\n#", 1)[0]
-    values = re.findall(r"^  (\d+): number 0 place 0 value (\d+)$", part, re.M)
+    values = re.findall(r"^ (\d+) 0 0 (\d+)$", part, re.M)
     return [f"1.{int(j):02b} xxxxx {int(value) // 128}.{int(value) % 128:07b}" for j, value in values]
 
 

@@ -118,13 +118,13 @@ SCRIPT = 65536  # bytes of the script that are read
 
 
 def rows(data):
-    """Bytes in hex, each after a space, 32 to a line."""
-    lines = [data[at:at + 32] for at in range(0, len(data), 32)]
-    return "\n ".join("".join(f" {byte:02X}" for byte in line) for line in lines)
+    """Bytes in hex, each after a space; each 32nd ends a line, and the last one does."""
+    return "".join(f" {byte:02x}" + ("\n" if at % 32 == 31 else "") for at, byte in enumerate(data)) + "\n"
 
 
-def answered(answer):
-    return "number {} place {} value {}".format(*answer)
+def row(*numbers):
+    """Numbers on a line, each after a space."""
+    return "".join(f" {number}" for number in numbers) + "\n"
 
 
 def folded(values):
@@ -151,22 +151,13 @@ class Cases:
         """Bytes at the front of the room."""
         self.room = data + self.room[len(data):]
 
-    def fill(self, byte):
-        self.room = bytes([byte]) * ROOM
-        return ""
-
-    def up(self):
-        self.room = bytes(number % 256 for number in range(ROOM))
+    def fill(self, first, step=0):
+        self.room = bytes((first + step * number) % 256 for number in range(ROOM))
         return ""
 
     def hex(self, *data):
         self.put(bytes(data))
         self.lent = len(data)
-        return ""
-
-    def image(self, k):
-        self.put(call_build(k, self.room)[1])
-        self.lent = LENGTHS[k - 1] if in_range(k) else 0
         return ""
 
     def xor(self, at, mask):
@@ -177,45 +168,49 @@ class Cases:
         self.lent = count
         return ""
 
+    def show(self):
+        return rows(self.buffer())
+
+    def total(self):
+        return row(folded(self.buffer()))
+
     def build(self, k):
         answer, after = call_build(k, self.buffer())
         self.put(after)
-        shown = rows(after) if answer[0] == 0 or len(after) <= 32 else f" fold to {folded(after)}"
-        return f": {answered(answer)} bytes{shown}"
-
-    def check(self, k):
-        return f": {answered(call_check(k, self.buffer()))}"
-
-    def gather(self, k, past):
-        answers = [call_node(k, self.buffer(), j) for j in range(past)]
-        return f": fold to {folded(part for number, _, value in answers for part in (number, value))}"
-
-    def precision(self, k):
-        place = "in" if in_range(k) else "not in"
-        length = Fraction(2 ** k * width(k), 8) if in_range(k) else 0
-        return f": {place} {LEAST} to {GREATEST}, width {width(k)} length {length} of at most {max(LENGTHS)}"
+        return row(*answer)
 
     def each(self, first, last, answer):
-        """A line for each number from the first to the last, of which there is at least one."""
-        return "".join(f"\n  {j}: {answer(j)}" for j in range(first, max(first, last) + 1))
+        """What is answered at each number from the first to the last, of which there is at least one."""
+        return "".join(f" {number}{answer(number)}" for number in range(first, max(first, last) + 1))
+
+    def precision(self, first, last=0):
+        def answer(k):
+            words = 2 ** k if in_range(k) else 0
+            length = Fraction(words * width(k), 8)
+            return row(int(in_range(k)), width(k), words, length, LEAST, GREATEST, max(LENGTHS))
+        return self.each(first, last, answer)
+
+    def check(self, first, last=0):
+        return self.each(first, last, lambda k: row(*call_check(k, self.buffer())))
+
+    def gather(self, first, last=0):
+        def answer(k):
+            nodes = [2 ** k, *range(2 ** k)] if in_range(k) else [0]
+            answers = [call_node(k, self.buffer(), j) for j in nodes]
+            return row(folded(part for number, _, value in answers for part in (number, value)))
+        return self.each(first, last, answer)
 
     def node(self, first, last, k):
-        return self.each(first, last, lambda j: answered(call_node(k, self.buffer(), j)))
+        return self.each(first, last, lambda j: row(*call_node(k, self.buffer(), j)))
 
     def word(self, first, last, k):
-        def answer(j):
-            part = call_word_bytes(k, self.buffer(), j)
-            return f"{len(part)} bytes{rows(part)}"
-        return self.each(first, last, answer)
+        return self.each(first, last, lambda j: rows(call_word_bytes(k, self.buffer(), j)))
 
     def rule(self, first, last, k):
-        def answer(j):
-            word = int(stored(k, j), 2) if in_range(k) and j < 2 ** k else 0
-            return f"value {value_or_0(k, j)} word {word}"
-        return self.each(first, last, answer)
+        return self.each(first, last, lambda j: row(value_or_0(k, j)))
 
-    def eight(self, first, last):
-        return self.each(first, last, lambda j: f"{value_or_0(8, j)}, " + (f"entry {node(8, j)}" if j <= 256 else "no entry"))
+    def eight(self, first, last=0):
+        return self.each(first, last, lambda j: row(value_or_0(8, j)))
 
 
 def cases(script):
@@ -226,7 +221,7 @@ def cases(script):
     for line in script.decode("ascii").splitlines():
         word, *rest = line.split(" ")
         numbers = [] if word.startswith("#") else [int(text, 16 if word == "hex" else 10) for text in rest]
-        printed.append(line + ("" if word.startswith("#") else getattr(run, word)(*numbers)) + "\n")
+        printed.append(line + "\n" + ("" if word.startswith("#") else getattr(run, word)(*numbers)))
     return "".join(printed)
 
 

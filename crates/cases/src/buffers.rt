@@ -1,33 +1,21 @@
 // Making the bytes that the calls are lent.
-use precision::Precision;
 
-// Sets every byte.
-pub(crate) fn set_all(s: &mut [u8], b: u8) {
+// Sets each byte: the first one, and what is added from one to the next.
+pub(crate) fn fill(s: &mut [u8], first: u32, more: u32) {
+    let mut b = (first % 256) as u8;
+    let step = (more % 256) as u8;
     let mut i = 0;
     while i < s.len() {
         s[i] = b;
-        i += 1;
-    }
-}
-
-// Sets every byte to its own number modulo 256.
-pub(crate) fn count_up(s: &mut [u8]) {
-    let mut i = 0;
-    while i < s.len() {
-        s[i] = (i % 256) as u8;
+        b = std::num::wrapping_add_u8(b, step);
         i += 1;
     }
 }
 
 // Changes the bits of byte i that `mask` has.
-pub(crate) fn flip(s: &mut [u8], i: usize, mask: u8) {
-    if i < s.len() {
-        s[i] = s[i] ^ mask;
+pub(crate) fn flip(s: &mut [u8], i: u32, mask: u32) {
+    let at = i as usize;
+    if at < s.len() {
+        s[at] = s[at] ^ ((mask % 256) as u8);
     }
-}
-
-// Puts the image of precision k at the front, and answers its length.
-pub(crate) fn image(s: &mut [u8], k: u32) -> usize {
-    building::build(Precision(k), s);
-    Precision(k).image_length()
 }

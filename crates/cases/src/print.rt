@@ -1,74 +1,42 @@
-// Printing through a page of bytes: a full page is written out and filled anew.
+// Printing to standard output.
+use libc::STDOUT_FILENO;
 
-// The bytes that are gathered before they are written.
-pub(crate) type Page = [u8; 4096];
-
-// Puts one byte.
-pub(crate) fn put(out: &mut Page, at: &mut usize, b: u8) {
-    let i = *at;
-    if i < 4096 {
-        out[i] = b;
-        *at = i + 1;
-    } else {
-        io::write_all(1, out);
-        out[0] = b;
-        *at = 1;
-    }
-}
-
-// Writes what the page holds so far.
-pub(crate) fn flush(out: &Page, at: usize) {
-    write_front(out, at);
-}
-
-fn write_front(s: &[u8], n: usize) {
-    if n <= s.len() {
-        io::write_all(1, &s[0..n]);
-    }
-}
-
-pub(crate) fn text(out: &mut Page, at: &mut usize, s: &[u8]) {
-    let mut i = 0;
-    while i < s.len() {
-        put(out, at, s[i]);
-        i += 1;
-    }
-}
-
-// A text, and a number after it in decimal.
-pub(crate) fn labelled(out: &mut Page, at: &mut usize, s: &[u8], n: u64) {
-    let mut digits = [0u8; 20];
-    let k = io::decimal(n, &mut digits);
-    text(out, at, s);
-    text(out, at, &digits[..k]);
-}
-
-fn hex_digit(d: u8) -> u8 {
-    if d < 10 {
-        return 48 + d;
-    }
-    if d < 16 {
-        return 55 + d;
-    }
-    63
-}
-
-// Bytes in hex, a space before each; after 32 of them a new line begins.
-pub(crate) fn bytes(out: &mut Page, at: &mut usize, s: &[u8]) {
-    let mut i = 0;
-    while i < s.len() {
-        byte(out, at, i, s[i]);
-        i += 1;
-    }
-}
-
-fn byte(out: &mut Page, at: &mut usize, i: usize, b: u8) {
-    if i % 32 == 0 {
-        if 0 < i {
-            text(out, at, b"\n ");
+// The bytes from i up to `past`, on a line.
+pub(crate) fn part(s: &[u8], i: usize, past: usize) {
+    if past <= s.len() {
+        if i <= past {
+            io::write_all(STDOUT_FILENO, &s[i..past]);
         }
     }
-    put(out, at, 32);
-    put(out, at, hex_digit(b / 16));
-    put(out, at, hex_digit(b % 16));
+    io::write_all(STDOUT_FILENO, b"\n");
+}
+
+// A space and a number.
+pub(crate) fn number(n: u64) {
+    io::write_all(STDOUT_FILENO, b" ");
+    io::print_decimal(STDOUT_FILENO, n);
+}
+
+// A number at the end of a line.
+pub(crate) fn line(n: u64) {
+    number(n);
+    io::write_all(STDOUT_FILENO, b"\n");
+}
+
+// Bytes in hex; each 32nd ends a line, and the last one does.
+pub(crate) fn bytes(s: &[u8]) {
+    let mut i = 0;
+    while i < s.len() {
+        byte(i, s[i]);
+        i += 1;
+    }
+    io::write_all(STDOUT_FILENO, b"\n");
+}
+
+fn byte(i: usize, b: u8) {
+    io::write_all(STDOUT_FILENO, b" ");
+    io::print_hex(STDOUT_FILENO, b as u64, 2);
+    if i % 32 == 31 {
+        io::write_all(STDOUT_FILENO, b"\n");
+    }
 }

@@ -29,17 +29,17 @@ fn worth(b: u8) -> u8 {
     }
 }
 
-// v with a digit after it, or as it is where that may be too long.
-fn more(v: u64, digit: u8) -> u64 {
-    if v < 1000000000000000000 {
-        return v * 10 + digit as u64;
+// v with a digit after it, or as it is where that is too long.
+fn more(v: u32, digit: u8) -> u32 {
+    if v <= 429496729 {
+        return std::num::wrapping_add_u32(v * 10, digit as u32);
     }
     v
 }
 
 // The number whose first digit stands at i, 0 where none does.
-fn number_at(s: &[u8], i: usize) -> u64 {
-    let mut v: u64 = 0;
+fn number_at(s: &[u8], i: usize) -> u32 {
+    let mut v: u32 = 0;
     let mut e = i;
     while e < s.len() {
         let digit = worth(s[e]);
@@ -53,7 +53,7 @@ fn number_at(s: &[u8], i: usize) -> u64 {
 }
 
 // The number of the line at i that has `which` numbers before it, 0 where there is none.
-pub(crate) fn argument(s: &[u8], i: usize, which: u32) -> u64 {
+pub(crate) fn number(s: &[u8], i: usize, which: u32) -> u32 {
     let past = end(s, i);
     let mut left = which;
     let mut e = i;
@@ -69,27 +69,18 @@ pub(crate) fn argument(s: &[u8], i: usize, which: u32) -> u64 {
     0
 }
 
-// The byte whose two hex digits begin after a space at e; n is the place it goes to. Answers how many bytes stand there then.
-fn hex_at(s: &[u8], e: usize, room: &mut [u8], n: usize) -> usize {
-    if room.len() <= n {
+// Where b is a hex digit, makes it the next one after n digits of bytes. Answers how many there are then.
+fn hex_digit(room: &mut [u8], n: usize, b: u8) -> usize {
+    let digit = worth(b);
+    let at = n / 2;
+    if 15 < digit {
         return n;
     }
-    if s.len() <= e {
+    if room.len() <= at {
         return n;
     }
-    if s[e] != 32 {
-        return n;
-    }
-    room[n] = pair(s, e);
+    room[at] = (room[at] % 16) * 16 + digit;
     n + 1
-}
-
-// The byte of the two hex digits after e.
-fn pair(s: &[u8], e: usize) -> u8 {
-    if 65536 < e {
-        return 0;
-    }
-    (worth(at(s, e + 1)) % 16) * 16 + worth(at(s, e + 2)) % 16
 }
 
 // Puts the bytes of a line `hex HH HH ..` at the front, and answers how many there are.
@@ -98,8 +89,8 @@ pub(crate) fn hex_line(s: &[u8], i: usize, room: &mut [u8]) -> usize {
     let mut n: usize = 0;
     let mut e = i;
     while e < past {
-        n = hex_at(s, e, room, n);
+        n = hex_digit(room, n, at(s, e));
         e += 1;
     }
-    n
+    n / 2
 }

@@ -5,10 +5,10 @@ use Rattle.cases.proofs.from.Statement.{statement}
 use Rattle.cases.proofs.from.Tie as tie
 
 abbrev Inv-loop : tie.InvT-loop
-Inv-loop out₀ at₀ s letter first last k j₀ out at j = 0 ≤ j
+Inv-loop s letter first last k j₀ j = 0 ≤ j
 
 abbrev μ-loop : tie.MeasureT-loop
-μ-loop out₀ at₀ s letter first last k j₀ out at j = last - j
+μ-loop s letter first last k j₀ j = last - j
 
 one-requires : tie.Need-one-requires Inv-loop μ-loop
 one-requires c κs = search needs

@@ -7,10 +7,10 @@ use Rattle.cases.proofs.lines.Statement.{statement}
 use Rattle.cases.proofs.lines.Tie as tie
 
 abbrev Inv-loop : tie.InvT-loop
-Inv-loop out₀ at₀ room₀ s lent₀ before₀ i₀ out at room lent before i = (i ≤ length s) × (length room ≡ length room₀)
+Inv-loop room₀ s lent₀ before₀ i₀ room lent before i = (i ≤ length s) × (length room ≡ length room₀)
 
 abbrev μ-loop : tie.MeasureT-loop
-μ-loop out₀ at₀ room₀ s lent₀ before₀ i₀ out at room lent before i = length s - i
+μ-loop room₀ s lent₀ before₀ i₀ room lent before i = length s - i
 
 loop-holds : tie.Need-loop-holds Inv-loop μ-loop
 loop-holds c = search needs

@@ -5,16 +5,22 @@ use Rattle.cases.proofs.calls.gather.Statement.{statement}
 use Rattle.cases.proofs.calls.gather.Tie as tie
 
 abbrev Inv-loop : tie.InvT-loop
-Inv-loop out at k s past sum₀ j₀ t8 sum j = 0 ≤ j
+Inv-loop s k past sum₀ j₀ sum j = 0 ≤ j
 
 abbrev μ-loop : tie.MeasureT-loop
-μ-loop out at k s past sum₀ j₀ t8 sum j = past - j
+μ-loop s k past sum₀ j₀ sum j = past - j
+
+word-count-requires : tie.Need-word-count-requires Inv-loop μ-loop
+word-count-requires c κs = search needs
+
+fold-node-requires : tie.Need-fold-node-requires Inv-loop μ-loop
+fold-node-requires c κs = search needs
 
 loop-holds : tie.Need-loop-holds Inv-loop μ-loop
 loop-holds c = search needs
 
-fold-node-requires : tie.Need-fold-node-requires Inv-loop μ-loop
-fold-node-requires c κs = search needs
+fold-node-requires-2 : tie.Need-fold-node-requires-2 Inv-loop μ-loop
+fold-node-requires-2 c κs = search needs
 
 add-j : tie.Need-add-j Inv-loop μ-loop
 add-j c = search needs
@@ -25,11 +31,8 @@ loop-less c = search needs
 loop-again : tie.Need-loop-again Inv-loop μ-loop
 loop-again c = search needs
 
-slice-aggregate-labelled : tie.Need-slice-aggregate-labelled Inv-loop μ-loop
-slice-aggregate-labelled c = search needs
-
-labelled-requires : tie.Need-labelled-requires Inv-loop μ-loop
-labelled-requires c κs = search needs
+line-requires : tie.Need-line-requires Inv-loop μ-loop
+line-requires c κs = search needs
 
 returns : tie.Need-returns Inv-loop μ-loop
 returns c = search needs
@@ -40,11 +43,12 @@ gather-spec =
     (tie.spec
     Inv-loop
     μ-loop
-    loop-holds
+    word-count-requires
     fold-node-requires
+    loop-holds
+    fold-node-requires-2
     add-j
     loop-less
     loop-again
-    slice-aggregate-labelled
-    labelled-requires
+    line-requires
     returns)

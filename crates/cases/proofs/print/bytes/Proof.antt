@@ -6,10 +6,10 @@ use Rattle.cases.proofs.print.bytes.Statement.{statement}
 use Rattle.cases.proofs.print.bytes.Tie as tie
 
 abbrev Inv-loop : tie.InvT-loop
-Inv-loop out₀ at₀ s i₀ out at i = i ≤ length s
+Inv-loop s i₀ t3 i = i ≤ length s
 
 abbrev μ-loop : tie.MeasureT-loop
-μ-loop out₀ at₀ s i₀ out at i = length s - i
+μ-loop s i₀ t3 i = length s - i
 
 loop-holds : tie.Need-loop-holds Inv-loop μ-loop
 loop-holds c = search needs
@@ -29,6 +29,12 @@ loop-less c = search needs
 loop-again : tie.Need-loop-again Inv-loop μ-loop
 loop-again c = search needs
 
+slice-aggregate-write-all : tie.Need-slice-aggregate-write-all Inv-loop μ-loop
+slice-aggregate-write-all c = search needs
+
+write-all-requires : tie.Need-write-all-requires Inv-loop μ-loop
+write-all-requires c κs = search needs
+
 returns : tie.Need-returns Inv-loop μ-loop
 returns c = search needs
 
@@ -44,4 +50,6 @@ bytes-spec =
     add-i
     loop-less
     loop-again
+    slice-aggregate-write-all
+    write-all-requires
     returns)

@@ -1,5 +1,5 @@
 -- `cases::script::hex_line` is safe and ends.
-use Prim.Native.Nat.{_-_}
+use Prim.Native.Nat.{_≤_, _-_}
 use mathlib.Core.Path.{_≡_}
 use lib.ListN.{length}
 use borrow.Author.Needs.{needs}
@@ -7,7 +7,7 @@ use Rattle.cases.proofs.script.hex_line.Statement.{statement}
 use Rattle.cases.proofs.script.hex_line.Tie as tie
 
 abbrev Inv-loop : tie.InvT-loop
-Inv-loop s i room₀ past n₀ e₀ room n e = length room ≡ length room₀
+Inv-loop s i room₀ past n₀ e₀ room n e = (0 ≤ e) × (length room ≡ length room₀)
 
 abbrev μ-loop : tie.MeasureT-loop
 μ-loop s i room₀ past n₀ e₀ room n e = past - e
@@ -18,8 +18,11 @@ end-requires c κs = search needs
 loop-holds : tie.Need-loop-holds Inv-loop μ-loop
 loop-holds c = search needs
 
-hex-at-requires : tie.Need-hex-at-requires Inv-loop μ-loop
-hex-at-requires c κs = search needs
+at-requires : tie.Need-at-requires Inv-loop μ-loop
+at-requires c κs = search needs
+
+hex-digit-requires : tie.Need-hex-digit-requires Inv-loop μ-loop
+hex-digit-requires c κs = search needs
 
 add-e : tie.Need-add-e Inv-loop μ-loop
 add-e c = search needs
@@ -44,7 +47,8 @@ hex-line-spec =
     μ-loop
     end-requires
     loop-holds
-    hex-at-requires
+    at-requires
+    hex-digit-requires
     add-e
     loop-less
     loop-again

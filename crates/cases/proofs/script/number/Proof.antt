@@ -1,8 +1,8 @@
--- `cases::script::argument` is safe and ends.
+-- `cases::script::number` is safe and ends.
 use Prim.Native.Nat.{_≤_, _-_}
 use borrow.Author.Needs.{needs}
-use Rattle.cases.proofs.script.argument.Statement.{statement}
-use Rattle.cases.proofs.script.argument.Tie as tie
+use Rattle.cases.proofs.script.number.Statement.{statement}
+use Rattle.cases.proofs.script.number.Tie as tie
 
 abbrev Inv-loop : tie.InvT-loop
 Inv-loop s i which past left₀ e₀ left e = 0 ≤ e
@@ -43,8 +43,8 @@ loop-again c = search needs
 returns-2 : tie.Need-returns-2 Inv-loop μ-loop
 returns-2 c = search needs
 
-pub argument-spec : {M : Type 1} → statement M
-argument-spec =
+pub number-spec : {M : Type 1} → statement M
+number-spec =
     tie.close
     (tie.spec
     Inv-loop
