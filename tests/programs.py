@@ -228,6 +228,12 @@ for length in (1, 2, 6, 7, 16, 4086, 4087, 65526, 65527):
     BAD[f"nine digits, a line feed, {length} bytes more"] = [b"000000002\n" + b"\n" * length]
     BAD[f"2, a line feed, {length} bytes more, later"] = [b"2\n", bytes(length)]
     BAD[f"{length + 9} zeros, then 2"] = [b"0" * (length + 9) + b"2\n"]
+# One byte more than a good request of each length, at once and in two pieces.
+for digits in range(1, 10):
+    request = b"2".rjust(digits, b"0") + b"\n"
+    for name, more in {"a line feed": b"\n", "a digit": b"2", "NUL": b"\0", "a space": b" "}.items():
+        BAD[f"a request of {digits + 1} bytes and {name}"] = [request + more]
+        BAD[f"a request of {digits + 1} bytes and {name}, later"] = [request, more]
 
 
 def printed_table(pieces, refused):

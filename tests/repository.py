@@ -1,13 +1,16 @@
-"""Tests of the repository: units do not mix, every crate is listed, contracts stand on every open call, must-fail edits are sound."""
+"""Tests of the repository: units do not mix, every crate is listed, constant tables follow the rule, contracts stand on every open
+call, must-fail edits are sound."""
 import pathlib
 import re
 import shutil
 import subprocess
+import sys
 import tempfile
 
 ROOT = pathlib.Path(__file__).resolve().parent.parent
 CRATES = ROOT / "crates"
-OPEN = re.compile(r"^\s*pub (?:const )?(?:extern \"C\" )?fn (\w+)")
+CONTRACTS = ROOT / "docs" / "CONTRACTS.md"
+OPEN = re.compile(r"^\s*(?:#\[[^\]]*\]\s*)*pub (?:const )?(?:extern \"C\" )?fn (\w+)")
 
 
 def rt(*words, cwd=ROOT):
@@ -82,6 +85,13 @@ def formatted():
     return None if done.returncode == 0 else done.stdout[-400:]
 
 
+def tables_follow():
+    """The constant tables and their copies in the proofs are what tests/tables.py makes by the rule."""
+    done = subprocess.run([sys.executable, ROOT / "tests" / "tables.py", "--check"], stdin=subprocess.DEVNULL,
+                          stdout=subprocess.PIPE, stderr=subprocess.STDOUT, text=True, timeout=60)
+    return None if done.returncode == 0 else done.stdout[-400:]
+
+
 def open_functions():
     """Each open function: its crate, its name, and the text of its contract, up to the line that opens the body."""
     for path in sorted(CRATES.glob("*/src/**/*.rt")):
@@ -109,20 +119,41 @@ def edits():
     return {f"{path.parent.parent.name}/{path.stem}" for path in CRATES.glob("*/must-fail/*.edit")}
 
 
+def sections():
+    """docs/CONTRACTS.md by its headings `CRATE::FN(...)`, or `Precision::FN(self)` for the crate precision: for each open call, as
+    (crate, name), the edits that the rows of its table end in."""
+    found = []
+    for text in re.split(r"^## ", CONTRACTS.read_text(), flags=re.M)[1:]:
+        call = re.match(r"`(\w+)::(\w+)\(.*\)`\n", text)
+        if call:
+            found.append(((call[1].lower(), call[2]), re.findall(r"\| `([\w-]+/[\w-]+)` \|$", text, re.M)))
+    return found
+
+
 def enough_edits():
-    """Two wrong programs or more for each open call."""
-    calls = {}
-    for crate, name, _ in open_functions():
-        calls.setdefault(crate, []).append(name)
-    counts = {crate: sum(1 for edit in edits() if edit.startswith(crate + "/")) for crate in calls}
-    few = [f"{crate}: {counts[crate]} edits for {len(names)} open calls" for crate, names in calls.items()
-           if counts[crate] < 2 * len(names)]
-    return "; ".join(few) or None
+    """Each open call has a section in docs/CONTRACTS.md with two wrong programs or more of its own crate, and each section a call."""
+    calls = [(crate, name) for crate, name, _ in open_functions()]
+    listed_calls = [call for call, _ in sections()]
+    bad = [f"{crate}::{name}: {calls.count((crate, name))} open functions, {listed_calls.count((crate, name))} sections"
+           for crate, name in sorted({*calls, *listed_calls})
+           if calls.count((crate, name)) != 1 or listed_calls.count((crate, name)) != 1]
+    for (crate, name), rows in sections():
+        own = {edit for edit in rows if edit in edits() and edit.split("/")[0] == crate}
+        if len(own) < 2:
+            bad.append(f"{crate}::{name}: {len(own)} edits of its own")
+    return "; ".join(bad) or ("there is no section" if not listed_calls else None)
+
+
+def edits_say_what():
+    """Each edit begins with a line that says which wrong program it is."""
+    bad = [str(path.relative_to(CRATES)) for path in sorted(CRATES.glob("*/must-fail/*.edit"))
+           if not re.match(r"# \S", path.read_text())]
+    return f"no comment in the first line: {bad}" if bad else None
 
 
 def edits_named():
     """docs/CONTRACTS.md names each edit as `crate/label`, and names no other."""
-    text = (ROOT / "docs" / "CONTRACTS.md").read_text()
+    text = CONTRACTS.read_text()
     named = {name for name in re.findall(r"`([\w-]+/[\w-]+)`", text) if name.split("/")[0] in listed()}
     if named == edits():
         return None
@@ -165,7 +196,9 @@ def tests():
     yield "units: ulps are not taken for table units", lambda: units_mixed("table_units_from_ulps", "TableUnits", "Ulps")
     yield "repository: crates.txt lists the folders under crates/", crates_listed
     yield "repository: rt fmt finds nothing to change", formatted
+    yield "repository: the constant tables and their copies follow the rule", tables_follow
     yield "repository: every open function has an ensures and no requires", contracts_stand
-    yield "must-fail: two edits or more for each open call", enough_edits
+    yield "must-fail: two edits or more for each open call, in its section of docs/CONTRACTS.md", enough_edits
+    yield "must-fail: each edit begins with a line that says which wrong program it is", edits_say_what
     yield "must-fail: docs/CONTRACTS.md names each edit", edits_named
     yield "must-fail: each edit was refused because a fact fails", refused_for_a_fact
