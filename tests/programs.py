@@ -63,21 +63,20 @@ def random_line(rng):
     to = min(first + rng.randint(0, 5), 2 ** 32 - 1)
     size = reference.LENGTHS[k - 1] if reference.in_range(k) else 4
     kind = rng.choice(["hex", "hex", "image", "image", "xor", "xor", "length", "length", "fill", "build", "check", "check", "node",
-                       "node", "word", "rule", "gather", "precision", "show"])
+                       "node", "word", "rule", "precision", "show"])
     return {
         "hex": "hex " + " ".join(f"{rng.randrange(256):02X}" for _ in range(rng.randint(1, 9))),
         "image": f"length {size}\nbuild {k}",
         "xor": f"xor {rng.randrange(rng.choice([1, 3, 8, 20, 16384]))} {rng.choice([1, 2, 4, 8, 16, 32, 64, 128, 255])}",
         "length": f"length {rng.choice([0, max(size - 1, 0), size, size + 1, rng.randint(0, 40), 16384])}",
         "fill": f"fill {rng.randrange(256)} {rng.choice([0, 1, rng.randrange(256)])}",
-        "build": f"build {rng.choice([0, 1, 2, 3, 4, 13])}\ntotal",
+        "build": f"build {rng.choice([0, 1, 2, 3, 4, 13])}\nshow",
         "check": f"check {rng.choice([k, f'{k} {min(k + 3, 2 ** 32 - 1)}'])}",
         "node": f"node {first} {to} {k}",
         "word": f"word {first} {to} {k}",
         "rule": f"rule {first} {to} {k}",
-        "gather": f"gather {k}",
         "precision": f"precision {k}",
-        "show": "show" if rng.randrange(4) == 0 else "total",
+        "show": "show",
     }[kind]
 
 
@@ -246,6 +245,7 @@ def printed_table(pieces, refused):
 def printed_table_closed():
     """Standard input is closed before the program starts, so that it can read nothing."""
     done = subprocess.run(["sh", "-c", 'exec "$0" <&-', BIN / "print_table"], capture_output=True, timeout=60)
+    assert done.stderr == b"", f"standard error: {done.stderr[:80]!r}"
     return same(done.stdout, b"refused 1\n") or (f"exit status {done.returncode}" if done.returncode else None)
 
 

@@ -127,11 +127,6 @@ def row(*numbers):
     return "".join(f" {number}" for number in numbers) + "\n"
 
 
-def folded(values):
-    """One number that depends on each value and on their order."""
-    return functools.reduce(lambda total, value: (31 * total + value) % 2 ** 32, values, 0)
-
-
 def value_or_0(k, j):
     """c(j), 0 where there is no such node."""
     return node(k, j) if in_range(k) and j <= 2 ** k else 0
@@ -171,9 +166,6 @@ class Cases:
     def show(self):
         return rows(self.buffer())
 
-    def total(self):
-        return row(folded(self.buffer()))
-
     def build(self, k):
         answer, after = call_build(k, self.buffer())
         self.put(after)
@@ -193,13 +185,6 @@ class Cases:
     def check(self, first, last=0):
         return self.each(first, last, lambda k: row(*call_check(k, self.buffer())))
 
-    def gather(self, first, last=0):
-        def answer(k):
-            nodes = [2 ** k, *range(2 ** k)] if in_range(k) else [0]
-            answers = [call_node(k, self.buffer(), j) for j in nodes]
-            return row(folded(part for number, _, value in answers for part in (number, value)))
-        return self.each(first, last, answer)
-
     def node(self, first, last, k):
         return self.each(first, last, lambda j: row(*call_node(k, self.buffer(), j)))
 
@@ -210,7 +195,7 @@ class Cases:
         return self.each(first, last, lambda j: row(value_or_0(k, j)))
 
     def eight(self, first, last=0):
-        return self.each(first, last, lambda j: row(value_or_0(8, j)))
+        return self.each(first, last, lambda j: row(value_or_0(8, j), node(8, j) if j <= 256 else 0))
 
 
 def cases(script):

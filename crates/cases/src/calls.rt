@@ -34,9 +34,17 @@ pub(crate) fn rule(k: u32, j: u32) {
     line(nodes::value(Precision(k), j).0);
 }
 
-// Node j of precision 8 from the constant table.
+// Node j of precision 8: what the call gives, and the entry of the constant table, 0 where there is none.
 pub(crate) fn eight(j: u32) {
-    line(nodes::node_8(j).0);
+    number(nodes::node_8(j).0);
+    line(entry(j) as u64);
+}
+
+fn entry(j: u32) -> u32 {
+    if 256 < j {
+        return 0;
+    }
+    nodes::NODES_8[j as usize]
 }
 
 // What a precision says of itself, and the limits that are named with it.
@@ -50,41 +58,4 @@ pub(crate) fn precision(k: u32) {
         Precision::GREATEST as u64,
         Precision::LONGEST_IMAGE as u64,
     );
-}
-
-// All nodes of precision k, in one number that depends on each answer's number and value.
-pub(crate) fn gather(s: &[u8], k: u32) {
-    let past = Precision(k).word_count();
-    let mut sum = fold_node(0, s, k, past);
-    let mut j: u32 = 0;
-    while j < past {
-        sum = fold_node(sum, s, k, j);
-        j += 1;
-    }
-    line(sum);
-}
-
-fn fold_node(sum: u64, s: &[u8], k: u32, j: u32) -> u64 {
-    let read = reading::node(Precision(k), s, j);
-    fold(fold(sum, read.number as u64), read.value.0)
-}
-
-// A sum with one more number in it, which depends on the order too.
-fn fold(sum: u64, v: u64) -> u64 {
-    ((sum % 4294967296) * 31 + v % 4294967296) % 4294967296
-}
-
-// All bytes in one number.
-pub(crate) fn folded(s: &[u8]) -> u64 {
-    let mut sum: u64 = 0;
-    let mut i = 0;
-    while i < s.len() {
-        sum = fold_byte(sum, s[i]);
-        i += 1;
-    }
-    sum
-}
-
-fn fold_byte(sum: u64, b: u8) -> u64 {
-    fold(sum, b as u64)
 }

@@ -7,14 +7,12 @@
 //     hex HH HH ..  these bytes stand at the front, and are what is lent
 //     xor I B       the bits of B are changed in byte I
 //     length N      the first N bytes are lent
-// To print them:
-//     show          the lent bytes in hex
-//     total         one number that depends on each lent byte
+// To print them in hex:
+//     show
 // Calls, each made with every number from FIRST to LAST, or with FIRST alone where there is no LAST above it. Each time a line is
 // printed: the number, and the numbers that the call answered.
 //     precision FIRST LAST, check FIRST LAST (precisions)
 //     node FIRST LAST K, word FIRST LAST K, rule FIRST LAST K, eight FIRST LAST (nodes; `eight` has those of precision 8)
-//     gather FIRST LAST (all nodes of a precision, the last one first, in one number)
 // One call is made with a single number, and its answer is printed alone:
 //     build K
 // Any other line, such as one that begins with '#', is printed alone.
@@ -30,47 +28,59 @@ fn main() {
     lines(&mut room, &input[..n]);
 }
 
-// Runs each line: one begins where the byte before is a line feed, or nothing.
+// Runs each line when its line feed is reached.
 fn lines(room: &mut [u8], s: &[u8]) {
     let mut lent: usize = 0;
-    let mut before: u8 = 10;
+    let mut first: usize = 0;
     let mut i = 0;
     while i < s.len() {
-        lent = step(room, lent, s, i, before);
-        before = s[i];
+        lent = step(room, lent, s, first, i);
+        if s[i] == 10 {
+            first = i + 1;
+        }
         i += 1;
     }
 }
 
-// Runs the line at i, if one begins there, and answers how many bytes are lent after it.
-fn step(room: &mut [u8], lent: usize, s: &[u8], i: usize, before: u8) -> usize {
-    if before != 10 {
+// Runs the line that begins at `first`, if it ends at i, and answers how many bytes are lent after it.
+fn step(room: &mut [u8], lent: usize, s: &[u8], first: usize, i: usize) -> usize {
+    if s.len() <= i {
         return lent;
     }
-    print::part(s, i, script::end(s, i));
-    lend(room, lent, s, i);
-    change(room, lent, s, i)
+    if i < first {
+        return lent;
+    }
+    if s[i] != 10 {
+        return lent;
+    }
+    run(room, lent, &s[first..i])
 }
 
-fn lend(room: &mut [u8], lent: usize, s: &[u8], i: usize) {
+fn run(room: &mut [u8], lent: usize, line: &[u8]) -> usize {
+    print::text(line);
+    lend(room, lent, line);
+    change(room, lent, line)
+}
+
+fn lend(room: &mut [u8], lent: usize, line: &[u8]) {
     if lent <= room.len() {
         call(
             &mut room[0..lent],
-            script::at(s, i),
-            script::number(s, i, 0),
-            script::number(s, i, 1),
-            script::number(s, i, 2),
+            script::at(line, 0),
+            script::number(line, 0),
+            script::number(line, 1),
+            script::number(line, 2),
         );
     }
 }
 
 // A command that makes the lent bytes.
-fn change(room: &mut [u8], lent: usize, s: &[u8], i: usize) -> usize {
-    match script::at(s, i) {
-        b'h' => return script::hex_line(s, i, room),
-        b'f' => buffers::fill(room, script::number(s, i, 0), script::number(s, i, 1)),
-        b'x' => buffers::flip(room, script::number(s, i, 0), script::number(s, i, 1)),
-        b'l' => return script::number(s, i, 0) as usize,
+fn change(room: &mut [u8], lent: usize, line: &[u8]) -> usize {
+    match script::at(line, 0) {
+        b'h' => return script::hex(line, room),
+        b'f' => buffers::fill(room, script::number(line, 0), script::number(line, 1)),
+        b'x' => buffers::flip(room, script::number(line, 0), script::number(line, 1)),
+        b'l' => return script::number(line, 0) as usize,
         _ => {}
     }
     lent
@@ -81,8 +91,7 @@ fn call(s: &mut [u8], letter: u8, a: u32, b: u32, c: u32) {
     match letter {
         b'b' => calls::build(s, a),
         b's' => print::bytes(s),
-        b't' => print::line(calls::folded(s)),
-        b'p' | b'c' | b'n' | b'w' | b'r' | b'e' | b'g' => from(s, letter, a, b, c),
+        b'p' | b'c' | b'n' | b'w' | b'r' | b'e' => from(s, letter, a, b, c),
         _ => {}
     }
 }
@@ -104,7 +113,6 @@ fn one(s: &[u8], letter: u8, j: u32, k: u32) {
         b'n' => calls::node(s, k, j),
         b'w' => calls::word(s, k, j),
         b'r' => calls::rule(k, j),
-        b'e' => calls::eight(j),
-        _ => calls::gather(s, j),
+        _ => calls::eight(j),
     }
 }

@@ -1,13 +1,9 @@
 // Printing to standard output.
 use libc::STDOUT_FILENO;
 
-// The bytes from i up to `past`, on a line.
-pub(crate) fn part(s: &[u8], i: usize, past: usize) {
-    if past <= s.len() {
-        if i <= past {
-            io::write_all(STDOUT_FILENO, &s[i..past]);
-        }
-    }
+// A line of text.
+pub(crate) fn text(s: &[u8]) {
+    io::write_all(STDOUT_FILENO, s);
     io::write_all(STDOUT_FILENO, b"\n");
 }
 

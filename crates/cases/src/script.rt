@@ -8,18 +8,6 @@ pub(crate) fn at(s: &[u8], i: usize) -> u8 {
     10
 }
 
-// Where the line that holds i ends.
-pub(crate) fn end(s: &[u8], i: usize) -> usize {
-    let mut e = i;
-    while e < s.len() {
-        if s[e] == 10 {
-            return e;
-        }
-        e += 1;
-    }
-    e
-}
-
 // The worth of a digit, decimal or hex, and 16 for another byte.
 fn worth(b: u8) -> u8 {
     match b {
@@ -52,15 +40,14 @@ fn number_at(s: &[u8], i: usize) -> u32 {
     v
 }
 
-// The number of the line at i that has `which` numbers before it, 0 where there is none.
-pub(crate) fn number(s: &[u8], i: usize, which: u32) -> u32 {
-    let past = end(s, i);
+// The number of a line that has `which` numbers before it, 0 where there is none.
+pub(crate) fn number(line: &[u8], which: u32) -> u32 {
     let mut left = which;
-    let mut e = i;
-    while e < past {
-        if at(s, e) == 32 {
+    let mut e = 0;
+    while e < line.len() {
+        if line[e] == 32 {
             if left == 0 {
-                return number_at(s, e + 1);
+                return number_at(line, e + 1);
             }
             left -= 1;
         }
@@ -84,12 +71,11 @@ fn hex_digit(room: &mut [u8], n: usize, b: u8) -> usize {
 }
 
 // Puts the bytes of a line `hex HH HH ..` at the front, and answers how many there are.
-pub(crate) fn hex_line(s: &[u8], i: usize, room: &mut [u8]) -> usize {
-    let past = end(s, i);
+pub(crate) fn hex(line: &[u8], room: &mut [u8]) -> usize {
     let mut n: usize = 0;
-    let mut e = i;
-    while e < past {
-        n = hex_digit(room, n, at(s, e));
+    let mut e = 0;
+    while e < line.len() {
+        n = hex_digit(room, n, line[e]);
         e += 1;
     }
     n / 2

@@ -7,10 +7,10 @@ use Rattle.cases.proofs.lines.Statement.{statement}
 use Rattle.cases.proofs.lines.Tie as tie
 
 abbrev Inv-loop : tie.InvT-loop
-Inv-loop room₀ s lent₀ before₀ i₀ room lent before i = (i ≤ length s) × (length room ≡ length room₀)
+Inv-loop room₀ s lent₀ first₀ i₀ room lent first i = (i ≤ length s) × (length room ≡ length room₀)
 
 abbrev μ-loop : tie.MeasureT-loop
-μ-loop room₀ s lent₀ before₀ i₀ room lent before i = length s - i
+μ-loop room₀ s lent₀ first₀ i₀ room lent first i = length s - i
 
 loop-holds : tie.Need-loop-holds Inv-loop μ-loop
 loop-holds c = search needs
@@ -18,8 +18,11 @@ loop-holds c = search needs
 step-requires : tie.Need-step-requires Inv-loop μ-loop
 step-requires c κs = search needs
 
-shared-slice-read-before : tie.Need-shared-slice-read-before Inv-loop μ-loop
-shared-slice-read-before c = search needs
+shared-slice-read-if1 : tie.Need-shared-slice-read-if1 Inv-loop μ-loop
+shared-slice-read-if1 c = search needs
+
+add-first : tie.Need-add-first Inv-loop μ-loop
+add-first c = search needs
 
 add-i : tie.Need-add-i Inv-loop μ-loop
 add-i c = search needs
@@ -44,7 +47,8 @@ lines-spec =
     μ-loop
     loop-holds
     step-requires
-    shared-slice-read-before
+    shared-slice-read-if1
+    add-first
     add-i
     loop-less
     loop-again

@@ -1,23 +1,21 @@
 -- `cases::script::number` is safe and ends.
 use Prim.Native.Nat.{_≤_, _-_}
+use lib.ListN.{length}
 use borrow.Author.Needs.{needs}
 use Rattle.cases.proofs.script.number.Statement.{statement}
 use Rattle.cases.proofs.script.number.Tie as tie
 
 abbrev Inv-loop : tie.InvT-loop
-Inv-loop s i which past left₀ e₀ left e = 0 ≤ e
+Inv-loop line which left₀ e₀ left e = e ≤ length line
 
 abbrev μ-loop : tie.MeasureT-loop
-μ-loop s i which past left₀ e₀ left e = past - e
-
-end-requires : tie.Need-end-requires Inv-loop μ-loop
-end-requires c κs = search needs
+μ-loop line which left₀ e₀ left e = length line - e
 
 loop-holds : tie.Need-loop-holds Inv-loop μ-loop
 loop-holds c = search needs
 
-at-requires : tie.Need-at-requires Inv-loop μ-loop
-at-requires c κs = search needs
+shared-slice-read-if1 : tie.Need-shared-slice-read-if1 Inv-loop μ-loop
+shared-slice-read-if1 c = search needs
 
 add-number-at : tie.Need-add-number-at Inv-loop μ-loop
 add-number-at c = search needs
@@ -49,9 +47,8 @@ number-spec =
     (tie.spec
     Inv-loop
     μ-loop
-    end-requires
     loop-holds
-    at-requires
+    shared-slice-read-if1
     add-number-at
     number-at-requires
     returns

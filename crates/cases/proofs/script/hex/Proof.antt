@@ -1,25 +1,22 @@
--- `cases::script::hex_line` is safe and ends.
+-- `cases::script::hex` is safe and ends.
 use Prim.Native.Nat.{_≤_, _-_}
 use mathlib.Core.Path.{_≡_}
 use lib.ListN.{length}
 use borrow.Author.Needs.{needs}
-use Rattle.cases.proofs.script.hex_line.Statement.{statement}
-use Rattle.cases.proofs.script.hex_line.Tie as tie
+use Rattle.cases.proofs.script.hex.Statement.{statement}
+use Rattle.cases.proofs.script.hex.Tie as tie
 
 abbrev Inv-loop : tie.InvT-loop
-Inv-loop s i room₀ past n₀ e₀ room n e = (0 ≤ e) × (length room ≡ length room₀)
+Inv-loop line room₀ n₀ e₀ room n e = (e ≤ length line) × (length room ≡ length room₀)
 
 abbrev μ-loop : tie.MeasureT-loop
-μ-loop s i room₀ past n₀ e₀ room n e = past - e
-
-end-requires : tie.Need-end-requires Inv-loop μ-loop
-end-requires c κs = search needs
+μ-loop line room₀ n₀ e₀ room n e = length line - e
 
 loop-holds : tie.Need-loop-holds Inv-loop μ-loop
 loop-holds c = search needs
 
-at-requires : tie.Need-at-requires Inv-loop μ-loop
-at-requires c κs = search needs
+shared-slice-read-hex-digit : tie.Need-shared-slice-read-hex-digit Inv-loop μ-loop
+shared-slice-read-hex-digit c = search needs
 
 hex-digit-requires : tie.Need-hex-digit-requires Inv-loop μ-loop
 hex-digit-requires c κs = search needs
@@ -39,15 +36,14 @@ same-length c = search needs
 returns : tie.Need-returns Inv-loop μ-loop
 returns c = search needs
 
-pub hex-line-spec : {M : Type 1} → statement M
-hex-line-spec =
+pub hex-spec : {M : Type 1} → statement M
+hex-spec =
     tie.close
     (tie.spec
     Inv-loop
     μ-loop
-    end-requires
     loop-holds
-    at-requires
+    shared-slice-read-hex-digit
     hex-digit-requires
     add-e
     loop-less
