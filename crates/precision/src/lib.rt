@@ -14,7 +14,7 @@ ghost use Rattle.precision.specs.Precision.{
 pub struct Precision(pub u32);
 
 // The image lengths of precisions 1 to 12, at k - 1.
-const IMAGE_LENGTHS: [u64; 12] = [1, 3, 8, 20, 48, 112, 256, 576, 1280, 2816, 6144, 13312];
+const IMAGE_LENGTHS: [usize; 12] = [1, 3, 8, 20, 48, 112, 256, 576, 1280, 2816, 6144, 13312];
 
 impl Precision {
     // The least precision.
@@ -67,6 +67,6 @@ impl Precision {
         if Precision::GREATEST < k {
             return 0;
         }
-        IMAGE_LENGTHS[(k - 1) as usize] as usize
+        IMAGE_LENGTHS[(k - 1) as usize]
     }
 }
