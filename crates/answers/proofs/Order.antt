@@ -6,7 +6,7 @@ use mathlib.Core.Bool.{Bool, true, false, cond, not, _&&_, _||_}
 use mathlib.Core.List.{List, [], _∷_}
 use Prim.Native.Nat.{ℕ}
 use lib.Dec.{T, eqb, eqb→eq, eqb-refl, T-not}
-use Rattle.truth.proofs.Bools.{both}
+use Rattle.bools.proofs.Bools.{both}
 use Rattle.answers.specs.Refusal.{Refusal, Outcome, outcome, turnedBack}
 
 -- n is neither 0 nor the number of a refusal in the list

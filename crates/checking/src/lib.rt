@@ -10,16 +10,15 @@ ghost use Rattle.checking.specs.Words.{AreWords};
 use answers::Done;
 use precision::Precision;
 
-// The lowest of `count` words of `width` bits that is not numerator / (count + j) rounded up, less the leading one, and `count` where
-// none is. Every word up to there is read.
-fn first_wrong(image: &[u8], width: u32, count: u32, numerator: u64, lead: u32) -> u32
-    requires { ⌜ AreWords (now image) width count numerator lead ⌝ }
-    ensures { λ r. ⌜ r ≡ firstWrongWord width (λ (j : ℕ). roundedUp numerator (count + j) % 2 ^ width) count (now (image .entry)) ⌝ }
+// The lowest of `count` words of `width` bits that is not numerator / (first + j) rounded up, modulo 2^width, and `count` where none is.
+// Every word up to there is read.
+fn first_wrong(image: &[u8], width: u32, count: u32, numerator: u64, first: u32, lead: u32) -> u32
+    requires { ⌜ AreWords (now image) width count numerator first lead ⌝ }
+    ensures { λ r. ⌜ r ≡ firstWrongWord width (λ (j : ℕ). roundedUp numerator (first + j) % 2 ^ width) count (now (image .entry)) ⌝ }
 {
     let mut j: u32 = 0;
     while j < count {
-        let word = packing::word(image, width, j);
-        let c = nodes::judge(numerator, count, lead, j, word as u32);
+        let c = image::judged_word(image, width, numerator, first, lead, j);
         if c.0 == 0 {
             return j;
         }
@@ -41,11 +40,13 @@ pub fn check(k: Precision, image: &[u8]) -> Done
         };
     }
     let count = k.word_count();
+    let width = k.word_width() as u32;
     let place = first_wrong(
         image,
-        k.word_width() as u32,
+        width,
         count,
         nodes::numerator(k),
+        count,
         nodes::lead(k),
     );
     if place < count {

@@ -8,7 +8,7 @@ use native.Mathlib.Nat.{le-refl, not-suc-le-zero}
 use native.Mathlib.Omega.{arith}
 use lib.Dec.{ltb}
 use borrow.Author.Tests.{ltb-true, ltb-false}
-use Rattle.truth.proofs.Bools.{cases, clash, below-or-not}
+use Rattle.bools.proofs.Bools.{cases, clash, below-or-not}
 use Rattle.image.specs.Lowest.{lowest}
 
 -- one number more: found already, found now, or not found yet

@@ -3,7 +3,7 @@
 use Prim.Native.Nat.{ℕ}
 use mathlib.Core.Bool.{Bool, cond, not, _||_}
 use mathlib.Core.List.{List, [], _∷_}
-use lib.Dec.{ltb}
+use lib.Dec.{ltb, eqb}
 use lib.ListN.{length}
 use Rattle.precision.specs.Precision.{wordCount}
 use Rattle.nodes.specs.Nodes.{decode}
@@ -19,13 +19,9 @@ buildRefusals k s = precisionRefusal k ∷ bufferRefusal k s ∷ []
 abbrev pub buildOutcome : ℕ → List ℕ → Outcome
 buildOutcome k s = outcome (buildRefusals k s) 0
 
--- refusal 1 or 2 applies
-abbrev pub noImage : ℕ → List ℕ → Bool
-noImage k s = isOutOfRange k || isTooShort k (length s)
-
 -- the buffer after the builder: as found where the call is turned back
 abbrev pub buildLeaves : ℕ → List ℕ → List ℕ
-buildLeaves k s = cond (noImage k s) s (builtBuffer k s)
+buildLeaves k s = cond (eqb (buildOutcome k s .number) 0) (builtBuffer k s) s
 
 -- the refusals of the check, in checking order: 1, 2 and 6
 abbrev pub checkRefusals : ℕ → List ℕ → List Refusal
@@ -42,6 +38,10 @@ nodeRefusals k s j = precisionRefusal k ∷ bufferRefusal k s ∷ nodeRefusal k 
 -- the answer of reading node j; it gives the node as its word is decoded, in table units
 abbrev pub nodeOutcome : ℕ → List ℕ → ℕ → Outcome
 nodeOutcome k s j = outcome (nodeRefusals k s j) (decode k j (wordOf k s j))
+
+-- refusal 1 or 2 applies
+abbrev pub noImage : ℕ → List ℕ → Bool
+noImage k s = isOutOfRange k || isTooShort k (length s)
 
 -- the bytes of the word of node j: an empty part where 1 or 2 applies or j is above 2^k - 1
 abbrev pub shownPart : ℕ → List ℕ → ℕ → List ℕ

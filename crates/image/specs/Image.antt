@@ -1,14 +1,14 @@
 -- The image of a precision, and what a buffer holds of it (document 01, "The image").
 -- Assumes nothing.
 use Prim.Native.Nat.{ℕ}
-use mathlib.Core.Bool.{Bool, not}
+use mathlib.Core.Bool.{Bool, cond, not}
 use mathlib.Core.List.{List, _++_}
-use lib.Dec.{eqb}
+use lib.Dec.{eqb, leb}
 use lib.ListN.{take, drop}
 use Rattle.precision.specs.Precision.{wordWidth, wordCount, imageLength}
 use Rattle.image.specs.Lowest.{lowest}
-use Rattle.nodes.specs.Nodes.{storedWord, isRight}
-use Rattle.packing.specs.Packing.{packedBytes, wordAt, firstByte, spanBytes}
+use Rattle.nodes.specs.Nodes.{storedWord, judged}
+use Rattle.packing.specs.Packing.{packedBytes, wordAt, firstByte, spanBytes, wordRead}
 
 -- the image: the words of nodes 0 to 2^k - 1, packed
 abbrev pub image : ℕ → List ℕ
@@ -36,7 +36,7 @@ firstWrongWord w f n s = lowest (isWrongWord w f s) n
 
 -- the word that a buffer holds for node j is not the construction's
 abbrev pub isWrong : ℕ → List ℕ → ℕ → Bool
-isWrong k s j = not (isRight k j (wordOf k s j))
+isWrong k s j = isWrongWord (wordWidth k) (storedWord k) s j
 
 -- the lowest node whose word is wrong, and 2^k where none is
 abbrev pub firstWrong : ℕ → List ℕ → ℕ
@@ -45,3 +45,8 @@ firstWrong k s = firstWrongWord (wordWidth k) (storedWord k) (wordCount k) s
 -- the part of a buffer that holds the word of node j
 abbrev pub wordPart : ℕ → List ℕ → ℕ → List ℕ
 wordPart k s j = take (spanBytes (wordWidth k) j) (drop (firstByte (wordWidth k) j) s)
+
+-- what word j of w bits of a buffer stands for, where that is M / (first + j) rounded up, and 0 where it is not; words of more than 32
+-- bits are not judged
+abbrev pub judgedWord : List ℕ → ℕ → ℕ → ℕ → ℕ → ℕ → ℕ
+judgedWord s w M first lead j = cond (leb w 32) (judged M first lead j (wordRead w s j)) 0

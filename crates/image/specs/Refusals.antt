@@ -1,11 +1,11 @@
 -- The refusals of the calls on an image, each a definition of its own (document 01, "Turned back, in checking order").
 -- Assumes nothing.
-use Prim.Native.Nat.{ℕ, _^_}
+use Prim.Native.Nat.{ℕ}
 use mathlib.Core.Bool.{Bool, cond, not, _&&_}
 use mathlib.Core.List.{List}
 use lib.Dec.{ltb}
 use lib.ListN.{length}
-use Rattle.precision.specs.Precision.{inRange, imageLength, wordCount}
+use Rattle.precision.specs.Precision.{inRange, imageLength, lastNode, wordCount}
 use Rattle.answers.specs.Refusal.{Refusal}
 use Rattle.image.specs.Image.{isWrong, firstWrong}
 
@@ -31,7 +31,7 @@ brokenLimit k n = cond (isOutOfRange k) 1 (cond (isTooShort k n) 2 0)
 
 -- 3: the node number is above 2^k
 abbrev pub nodeRefusal : ℕ → ℕ → Refusal
-nodeRefusal k j = record { applies = ltb (2 ^ k) j; number = 3; place = 0 }
+nodeRefusal k j = record { applies = ltb (lastNode k) j; number = 3; place = 0 }
 
 -- 6 where every word is read: a word is not the construction's, the place being the lowest such node
 abbrev pub imageRefusal : ℕ → List ℕ → Refusal
@@ -39,4 +39,4 @@ imageRefusal k s = record { applies = ltb (firstWrong k s) (wordCount k); number
 
 -- 6 where the word of node j alone is read, and none at node 2^k
 abbrev pub wordRefusal : ℕ → List ℕ → ℕ → Refusal
-wordRefusal k s j = record { applies = ltb j (2 ^ k) && isWrong k s j; number = 6; place = j }
+wordRefusal k s j = record { applies = ltb j (wordCount k) && isWrong k s j; number = 6; place = j }

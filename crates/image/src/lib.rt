@@ -1,7 +1,10 @@
-// The image of a precision: what it is stands in specs/, and here are the limits that every call on an image tests first.
+// The image of a precision: what it is stands in specs/, and here are the limits that every call on an image tests first, and the
+// judging of a word where it stands.
 ghost use mathlib.Core.Path.{_≡_};
+ghost use Rattle.image.specs.Image.{judgedWord};
 ghost use Rattle.image.specs.Refusals.{brokenLimit};
 use precision::Precision;
+use units::TableUnits;
 
 // The number of the limit that is broken by precision k and a buffer of `length` bytes, 1 or 2, and 0 where both are kept.
 pub fn broken_limit(k: Precision, length: usize) -> u32
@@ -15,4 +18,23 @@ pub fn broken_limit(k: Precision, length: usize) -> u32
         return 2;
     }
     0
+}
+
+// What word j of `width` bits of the image stands for, where that is numerator / (first + j) rounded up, and 0 where it is not. Words of
+// more than 32 bits are not judged.
+pub fn judged_word(
+    image: &[u8],
+    width: u32,
+    numerator: u64,
+    first: u32,
+    lead: u32,
+    j: u32,
+) -> TableUnits
+    ensures { λ r. ⌜ r .0 ≡ judgedWord (now (image .entry)) width numerator first lead j ⌝ }
+{
+    if 32 < width {
+        return TableUnits(0);
+    }
+    let word = packing::word(image, width, j);
+    nodes::judge(numerator, first, lead, j, word as u32)
 }

@@ -2,13 +2,13 @@
 -- 2 × H × K. At K = 2^k and H = 2^(2k+a) they are the laws of a table with a guard bits.
 -- Assumes nothing.
 use mathlib.Core.Path.{_≡_, refl, sym, ap, _∙_}
-use mathlib.Core.Bool.{Bool, true, false, cond}
+use mathlib.Core.Bool.{Bool, true, false, cond, not}
 use Prim.Native.Nat.{ℕ, zero, suc, _+_, _-_, _*_, _%_, _^_, _≤_, _<_}
 use native.Mathlib.Nat.{le-refl, zero-lt-suc, not-suc-le-zero, add-assoc, mul-le-mul, mul-le-mul-left, mul-le-mul-right, mod-eq-of-lt, mod-eq-sub-mod, mul-mod-left, add-mod-left, lt-of-not-le}
 use native.Mathlib.Omega.{arith}
 use lib.Dec.{eqb}
 use borrow.Author.Tests.{eq-eqb, ne-eqb, eqb-true, lt-ltb}
-use Rattle.truth.proofs.Bools.{same}
+use Rattle.bools.proofs.Bools.{same}
 use Rattle.quotient.specs.Quotient.{roundedUp, roundsUp}
 use Rattle.quotient.proofs.Laws.{reaches, passes-less, unique, rounds-up}
 use Rattle.nodes.specs.Nodes.{decodeUnder, judged}
@@ -142,9 +142,13 @@ module _ {H K : ℕ} (shape : Shape H K) where
       by true e = right-decodes j word h (eqb-true word (nodeAt H K j % H) e)
       by false e = refl
 
-  -- no node is 0
-  pub positive : (j : ℕ) → j < K → 0 < nodeAt H K j
-  positive j h = omega (arith, above j h)
+  -- and 0 exactly where the word is not the node's
+  pub judges-zero : (j word : ℕ) → j < K → word < H → 2 * H < 2 ^ 32 → 2 * K < 2 ^ 32 → eqb (judged (2 * H * K) K H j word) 0 ≡ not (eqb word (nodeAt H K j % H))
+  judges-zero j word h l small few = rw (judges-value j word h l small few) (by (eqb word (nodeAt H K j % H)))
+    where
+      by : (b : Bool) → eqb (cond b (nodeAt H K j) 0) 0 ≡ not b
+      by true = ne-eqb (nodeAt H K j) 0 (λ e. omega (arith, e, above j h))
+      by false = refl
 
   -- neighbours differ by less than D, where D × K is twice the leading one (document 002, Lemma 1)
   pub near : (D : ℕ) → D * K ≡ 2 * H → K < D → (j : ℕ) → nodeAt H K j < nodeAt H K (j + 1) + D

@@ -115,6 +115,13 @@ module _ (k : ℕ) where
       rw (numerator k 2)
       (laws.judges-value shape j word h l (rw lead-double (pow-lt top)) (rw (← double k) (pow-lt few)))
 
+  pub judged-zero : 2 * k + 3 < 32 → (j word : ℕ) → j < 2 ^ k → word < 2 ^ wordWidth k
+      → eqb (judged (2 ^ (3 * k + 3)) (2 ^ k) (2 ^ (2 * k + 2)) j word) 0 ≡ not (isRight k j word)
+  judged-zero top j word h l =
+      let few : k + 1 < 32 = omega arith in
+      rw (numerator k 2)
+      (laws.judges-zero shape j word h l (rw lead-double (pow-lt top)) (rw (← double k) (pow-lt few)))
+
   -- nodes and words stand where k is a precision and j is in the table, and nowhere else
   pub node-there : inRange k ≡ true → (j : ℕ) → j ≤ 2 ^ k → nodeOr0 k j ≡ node k j
   node-there r j h = rw (r, le-leb j (2 ^ k) h)

@@ -20,7 +20,11 @@ inRange k = leb least k && leb k greatest
 abbrev pub wordWidth : ℕ → ℕ
 wordWidth k = 2 * k + 2
 
--- the words of an image: one for each node below node 2^k
+-- the number of the last node
+abbrev pub lastNode : ℕ → ℕ
+lastNode k = 2 ^ k
+
+-- the words of an image: one for each node below the last
 abbrev pub wordCount : ℕ → ℕ
 wordCount k = 2 ^ k
 
@@ -28,7 +32,7 @@ wordCount k = 2 ^ k
 abbrev pub wordsOr0 : ℕ → ℕ
 wordsOr0 k = cond (inRange k) (wordCount k) 0
 
--- the bytes of an image: 2^k × (2k + 2) / 8
+-- the bytes of an image: 2^k × (2k + 2) / 8, which is a whole number (`whole-bytes` in the image's laws)
 abbrev pub imageLength : ℕ → ℕ
 imageLength k = wordCount k * wordWidth k / 8
 

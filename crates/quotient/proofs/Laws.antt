@@ -7,7 +7,7 @@ use native.Mathlib.Nat.{div-zero, div-mul-le-self, lt-div-mul-add, div-lt-iff-lt
 use native.Mathlib.Omega.{arith}
 use lib.Dec.{ltb, eqb}
 use borrow.Author.Tests.{le-leb, lt-ltb, leb-true, ltb-true, eq-eqb, eqb-true}
-use Rattle.truth.proofs.Bools.{same}
+use Rattle.bools.proofs.Bools.{same}
 use Rattle.quotient.specs.Quotient.{roundedUp, roundsUp}
 
 -- a number that reaches M passes it by less than i exactly when it is below M + i

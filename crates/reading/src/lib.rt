@@ -34,8 +34,8 @@ pub fn node(k: Precision, image: &[u8], j: u32) -> NodeRead
             value: TableUnits(lead as u64),
         };
     }
-    let word = packing::word(image, k.word_width() as u32, j);
-    let c = nodes::judge(nodes::numerator(k), count, lead, j, word as u32);
+    let width = k.word_width() as u32;
+    let c = image::judged_word(image, width, nodes::numerator(k), count, lead, j);
     if c.0 == 0 {
         return NodeRead {
             number: 6,

@@ -10,7 +10,7 @@ use lib.ListN.{length, take, getD}
 use lib.Seq.{ext-getD, getD-take}
 use lib.Dec.{ltb}
 use borrow.Author.Tests.{le-ltb, ltb-true, ltb-false, eq-eqb}
-use Rattle.truth.proofs.Bools.{below-or-not}
+use Rattle.bools.proofs.Bools.{below-or-not}
 use Rattle.precision.specs.Precision.{inRange, imageLength, wordCount, wordWidth}
 use Rattle.nodes.specs.Nodes.{decode, isRight}
 use Rattle.packing.specs.Packing.{wordAt, firstByte, lastByte}

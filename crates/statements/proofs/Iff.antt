@@ -9,7 +9,7 @@ use native.Mathlib.Omega.{arith}
 use lib.Dec.{T, ltb, ltb→lt, lt→ltb, nltb→le, not-T, T-not}
 use lib.Arith.{le→nltb}
 use borrow.Author.Tests.{lt-ltb}
-use Rattle.truth.proofs.Bools.{clash}
+use Rattle.bools.proofs.Bools.{clash}
 use Rattle.precision.specs.Precision.{inRange, wordCount}
 use Rattle.precision.proofs.Range.{in-range, range-in}
 use Rattle.image.specs.Image.{isWrong, firstWrong}

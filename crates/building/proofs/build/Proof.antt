@@ -1,26 +1,33 @@
 -- `building::build` meets its contract: a broken limit leaves all as found, and otherwise the buffer is filled with the words of the nodes.
 -- Assumes nothing.
 use mathlib.Core.Path.{_≡_, sym, _∙_, ap}
-use mathlib.Core.Bool.{Bool, cond}
+use mathlib.Core.Bool.{cond}
 use mathlib.Core.List.{List, [], _++_}
 use Prim.Native.Nat.{ℕ, _+_, _*_, _%_, _^_, _<_}
 use native.Mathlib.Omega.{arith}
 use lib.ListN.{length, drop}
 use lib.Pow.{pow-mono}
+use lib.Dec.{eqb}
 use borrow.Author.Needs.{needs}
+use borrow.Author.Tests.{ne-eqb}
+use Rattle.answers.specs.Refusal.{Outcome}
 use Rattle.answers.specs.Answer.{done}
 use Rattle.quotient.specs.Quotient.{roundedUp}
 use Rattle.packing.specs.Packing.{packedBytes, byteCount}
 use Rattle.image.specs.Image.{image, builtBuffer}
 use Rattle.image.specs.Refusals.{brokenLimit}
 use Rattle.image.proofs.Laws.{byte-count}
-use Rattle.image.proofs.Limits.{Kept, limit-refuses, limit-no-image, limit-passes, limit-kept, limit-image}
+use Rattle.image.proofs.Limits.{Kept, limit-refuses, limit-passes, limit-kept}
 use Rattle.building.proofs.build.Statement.{statement}
 use Rattle.building.proofs.build.Tie as tie
 
 -- what the filling leaves of s, by the width, the numerator and the number of words
 abbrev filled : List ℕ → ℕ → ℕ → ℕ → List ℕ
 filled s w M n = packedBytes w (λ (j : ℕ). roundedUp M (n + j) % 2 ^ w) n ++ drop (byteCount w n) s
+
+-- what the builder leaves of s by its answer
+abbrev leaves : ℕ → List ℕ → Outcome → List ℕ
+leaves k s o = cond (eqb (o .number) 0) (builtBuffer k s) s
 
 -- behind the test of the limits both are kept
 limit : (c : tie.Else1) → brokenLimit (c .before .before .before .args .k .0) (length (c .before .before .before .args .image .now)) ≡ 0
@@ -38,7 +45,8 @@ returns c =
     let s = c .before .before .before .args .image .now in
     let p = c .before .broken-limit .ensures in
     let h : brokenLimit k (length s) ≡ 0 → ⊥ = λ e. c .if1 .taken (p ∙ e) in
-    (rw p (ap done (sym (limit-refuses k s [] 0 h))), ap (λ (b : Bool). cond b s (builtBuffer k s)) (sym (limit-no-image k s h)))
+    let refused = limit-refuses k s [] 0 h in
+    (rw p (ap done (sym refused)), sym (ap (leaves k s) refused ∙ rw (ne-eqb (brokenLimit k (length s)) 0 h)))
 
 word-count-requires : tie.Need-word-count-requires
 word-count-requires c κs = search needs
@@ -77,7 +85,7 @@ returns-2 c =
           ∙ ap (filled s (2 * k + 2) (made .result)) (count .ensures ∙ ok .words)
           ∙ ap (λ (M : ℕ). filled s (2 * k + 2) M (2 ^ k)) (made .ensures ∙ ok .numerator)
           ∙ ap (λ (n : ℕ). image k ++ drop n s) (byte-count k (ok .low))
-          ∙ ap (λ (b : Bool). cond b s (builtBuffer k s)) (sym (limit-image k s (limit at))),
+          ∙ sym (ap (leaves k s) (limit-passes k s [] 0 (limit at))),
     )
 
 pub build-spec : {M : Type 1} → statement M

@@ -10,7 +10,7 @@ use lib.Pow.{pow-pos}
 use borrow.Author.Needs.{needs}
 use borrow.Author.Tests.{lt-ltb, le-ltb}
 use Rattle.quotient.specs.Quotient.{roundedUp}
-use Rattle.nodes.proofs.Powers.{numerator, shape}
+use Rattle.nodes.proofs.Nodes.{judged-zero}
 use Rattle.answers.specs.Answer.{done}
 use Rattle.image.specs.Image.{firstWrongWord, firstWrong}
 use Rattle.image.specs.Refusals.{brokenLimit, imageRefusal}
@@ -28,16 +28,13 @@ kept : (c : tie.Else1) → Kept (c .before .before .before .args .k .0) (c .befo
 kept c = limit-kept (c .before .before .before .args .k .0) (c .before .before .before .args .image .now) (limit c)
 
 -- the words of a precision are such as are checked
-are-words : (k : ℕ) (s : List ℕ) → Kept k s → AreWords s (2 * k + 2) (2 ^ k) (2 ^ (3 * k + 3)) (2 ^ (2 * k + 2))
+are-words : (k : ℕ) (s : List ℕ) → Kept k s → AreWords s (2 * k + 2) (2 ^ k) (2 ^ (3 * k + 3)) (2 ^ k) (2 ^ (2 * k + 2))
 are-words k s ok =
     record {
-      some = pow-pos k;
       one = omega arith;
       wide = omega (arith, ok .high);
-      few = shape k 2 (omega arith) .wide;
-      leads = refl;
-      numerator = numerator k 2;
       long = omega (arith, whole-bytes k (ok .low), ok .long);
+      judges = λ j word h l. judged-zero k (omega (arith, ok .high)) j word h l;
     }
 
 -- the lowest wrong word, by the numbers that are handed on
@@ -60,8 +57,8 @@ word-count-requires c κs = search needs
 word-width-requires : tie.Need-word-width-requires
 word-width-requires c κs = search needs
 
-cast-first-wrong : tie.Need-cast-first-wrong
-cast-first-wrong c = omega (arith, c .word-width .ensures, kept (c .before .before) .high)
+cast-width : tie.Need-cast-width
+cast-width c = omega (arith, c .word-width .ensures, kept (c .before .before) .high)
 
 numerator-requires : tie.Need-numerator-requires
 numerator-requires c κs = search needs
@@ -95,8 +92,8 @@ found c =
     ∙ ap (λ (n : ℕ). lowestBy s (2 * k + 2) n (made .result)) (count .ensures ∙ ok .words)
     ∙ ap (lowestBy s (2 * k + 2) (2 ^ k)) (made .ensures ∙ ok .numerator)
 
-cast-t12 : tie.Need-cast-t12
-cast-t12 c = search needs
+cast-t11 : tie.Need-cast-t11
+cast-t11 c = search needs
 
 returns-2 : tie.Need-returns-2
 returns-2 c =
@@ -126,10 +123,10 @@ check-spec =
     returns
     word-count-requires
     word-width-requires
-    cast-first-wrong
+    cast-width
     numerator-requires
     lead-requires
     first-wrong-requires
-    cast-t12
+    cast-t11
     returns-2
     returns-3)

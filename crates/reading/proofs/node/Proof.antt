@@ -5,16 +5,13 @@ use mathlib.Core.List.{[], _∷_}
 use Prim.Native.Nat.{ℕ, _+_, _*_, _^_, _≤_, _<_}
 use native.Mathlib.Omega.{arith}
 use lib.ListN.{length}
-use lib.Pow.{pow-mono}
 use borrow.Author.Needs.{needs}
 use borrow.Author.Tests.{eq-eqb}
 use Rattle.answers.specs.Refusal.{served}
 use Rattle.answers.specs.Answer.{nodeRead}
 use Rattle.precision.specs.Precision.{wordWidth}
-use Rattle.nodes.specs.Nodes.{decode, judged}
-use Rattle.packing.specs.Packing.{wordRead}
-use Rattle.packing.proofs.Reading.{read-lt}
-use Rattle.image.specs.Image.{wordOf}
+use Rattle.nodes.specs.Nodes.{decode}
+use Rattle.image.specs.Image.{wordOf, judgedWord}
 use Rattle.image.specs.Refusals.{brokenLimit, nodeRefusal, wordRefusal}
 use Rattle.image.proofs.Limits.{Kept, limit-refuses, limit-passes, limit-kept}
 use Rattle.image.proofs.Judging.{judged-0, judged-not-0, judged-value, node-above, node-end, node-wrong, node-right}
@@ -36,25 +33,23 @@ counted c = c .word-count .ensures ∙ kept (c .before) .words
 below : (c : tie.Else3) → c .before .before .before .before .before .before .before .args .j < 2 ^ c .before .before .before .before .before .before .before .args .k .0
 below c = omega (arith, counted (c .before .before .before), c .before .before .if2 .left, c .if3 .left)
 
--- the value that is judged of it
-value : (c : tie.After-struct-known) → c .before .judge .result .0 ≡ judged (2 ^ (3 * c .before .before .before .before .before .before .before .before .before .before .before .before .args .k .0 + 3)) (2 ^ c .before .before .before .before .before .before .before .before .before .before .before .before .args .k .0) (2 ^ (2 * c .before .before .before .before .before .before .before .before .before .before .before .before .args .k .0 + 2)) (c .before .before .before .before .before .before .before .before .before .before .before .before .args .j) (wordRead (wordWidth (c .before .before .before .before .before .before .before .before .before .before .before .before .args .k .0)) (c .before .before .before .before .before .before .before .before .before .before .before .before .args .image .now) (c .before .before .before .before .before .before .before .before .before .before .before .before .args .j))
+-- what is judged of it
+value : (c : tie.After-struct-known) → c .before .judged-word .result .0 ≡ judgedWord (c .before .before .before .before .before .before .before .before .before .before .before .args .image .now) (wordWidth (c .before .before .before .before .before .before .before .before .before .before .before .args .k .0)) (2 ^ (3 * c .before .before .before .before .before .before .before .before .before .before .before .args .k .0 + 3)) (2 ^ c .before .before .before .before .before .before .before .before .before .before .before .args .k .0) (2 ^ (2 * c .before .before .before .before .before .before .before .before .before .before .before .args .k .0 + 2)) (c .before .before .before .before .before .before .before .before .before .before .before .args .j)
 value c =
-    let at = c .before .before .before .before .before .before .before .before .before in
+    let at = c .before .before .before .before .before .before .before .before in
     let k = at .before .before .before .args .k .0 in
     let s = at .before .before .before .args .image .now in
     let j = at .before .before .before .args .j in
     let ok = kept at in
     let made = c .before .before .numerator in
-    let count = c .before .before .before .before .before .before .before .before .word-count in
-    let one = c .before .before .before .before .before .before .lead in
-    let word = c .before .before .before .word in
-    let width = c .before .before .before .before .word-width in
-    c .before .judge .ensures
-    ∙ ap (judged (made .result) (count .result) (one .result) j) (word .ensures .0)
-    ∙ ap (λ (w : ℕ). judged (made .result) (count .result) (one .result) j (wordRead w s j)) (width .ensures)
-    ∙ ap (λ (M : ℕ). judged M (count .result) (one .result) j (wordRead (2 * k + 2) s j)) (made .ensures ∙ ok .numerator)
-    ∙ ap (λ (n : ℕ). judged (2 ^ (3 * k + 3)) n (one .result) j (wordRead (2 * k + 2) s j)) (count .ensures ∙ ok .words)
-    ∙ ap (λ (l : ℕ). judged (2 ^ (3 * k + 3)) (2 ^ k) l j (wordRead (2 * k + 2) s j)) (one .ensures ∙ ok .lead)
+    let count = c .before .before .before .before .before .before .before .word-count in
+    let one = c .before .before .before .before .before .lead in
+    let width = c .before .before .before .word-width in
+    c .before .judged-word .ensures
+    ∙ ap (λ (w : ℕ). judgedWord s w (made .result) (count .result) (one .result) j) (width .ensures)
+    ∙ ap (λ (M : ℕ). judgedWord s (2 * k + 2) M (count .result) (one .result) j) (made .ensures ∙ ok .numerator)
+    ∙ ap (λ (n : ℕ). judgedWord s (2 * k + 2) (2 ^ (3 * k + 3)) n (one .result) j) (count .ensures ∙ ok .words)
+    ∙ ap (λ (l : ℕ). judgedWord s (2 * k + 2) (2 ^ (3 * k + 3)) (2 ^ k) l j) (one .ensures ∙ ok .lead)
 
 broken-limit-requires : tie.Need-broken-limit-requires
 broken-limit-requires c κs = search needs
@@ -104,29 +99,18 @@ returns-3 c =
 word-width-requires : tie.Need-word-width-requires
 word-width-requires c κs = search needs
 
-cast-word : tie.Need-cast-word
-cast-word c = omega (arith, c .word-width .ensures, kept (c .before .before .before .before .before) .high)
-
-word-requires : tie.Need-word-requires
-word-requires c κs = search needs
+cast-width : tie.Need-cast-width
+cast-width c = omega (arith, c .word-width .ensures, kept (c .before .before .before .before .before) .high)
 
 numerator-requires : tie.Need-numerator-requires
 numerator-requires c κs = search needs
 
-cast-judge : tie.Need-cast-judge
-cast-judge c =
-    let at = c .before .before .before .before .before .before .before in
-    let a = at .before .before .before .args in
-    let width = c .before .before .word-width in
-    let top : width .result ≤ 26 = omega (arith, width .ensures, kept at .high) in
-    omega (arith, c .before .word .ensures .0, read-lt (width .result) (a .image .now) (a .j), pow-mono top)
-
-judge-requires : tie.Need-judge-requires
-judge-requires c κs = search needs
+judged-word-requires : tie.Need-judged-word-requires
+judged-word-requires c κs = search needs
 
 returns-4 : tie.Need-returns-4
 returns-4 c =
-    let there = c .before .before .before .before .before .before in
+    let there = c .before .before .before .before .before in
     let at = there .before .before .before .before in
     let k = at .before .before .before .args .k .0 in
     let s = at .before .before .before .args .image .now in
@@ -138,14 +122,14 @@ returns-4 c =
 
 returns-5 : tie.Need-returns-5
 returns-5 c =
-    let there = c .before .before .before .before .before .before in
+    let there = c .before .before .before .before .before in
     let at = there .before .before .before .before in
     let k = at .before .before .before .args .k .0 in
     let s = at .before .before .before .args .image .now in
     let j = at .before .before .before .args .j in
     let v = decode k j (wordOf k s j) in
     let right = judged-not-0 k s j (kept at) (below there) (λ e. c .if4 .left (value (c .before) ∙ e)) in
-    let made : c .before .before .judge .result .0 ≡ v = value (c .before) ∙ judged-value k s j (kept at) (below there) right in
+    let made : c .before .before .judged-word .result .0 ≡ v = value (c .before) ∙ judged-value k s j (kept at) (below there) right in
     ap (λ (x : ℕ). nodeRead (served x)) made
     ∙ ap nodeRead
     (sym (limit-passes k s (nodeRefusal k j ∷ wordRefusal k s j ∷ []) v (limit at) ∙ node-right k s j v (below there) right))
@@ -162,10 +146,8 @@ node-spec =
     cast-t13
     returns-3
     word-width-requires
-    cast-word
-    word-requires
+    cast-width
     numerator-requires
-    cast-judge
-    judge-requires
+    judged-word-requires
     returns-4
     returns-5)
