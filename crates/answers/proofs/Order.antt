@@ -3,10 +3,11 @@
 use mathlib.Core.Path.{_≡_, refl, sym}
 use mathlib.Core.Logic.{_↔_}
 use mathlib.Core.Bool.{Bool, true, false, cond, not, _&&_, _||_}
-use mathlib.Core.List.{List, [], _∷_}
+use mathlib.Core.List.{List, [], _∷_, map}
 use Prim.Native.Nat.{ℕ}
 use lib.Dec.{T, eqb, eqb→eq, eqb-refl, T-not}
 use Rattle.bools.proofs.Bools.{both}
+use borrow.Author.Tests.{eq-eqb}
 use Rattle.answers.specs.Refusal.{Refusal, Outcome, outcome, turnedBack}
 
 -- n is neither 0 nor the number of a refusal in the list
@@ -56,6 +57,31 @@ later-of false x y n f = (λ h. (tt, h), λ t. t .1)
 -- the number is another one exactly when the first refusal does not apply and those after it give that number
 pub later : (n : ℕ) (r : Refusal) (rs : List Refusal) (v : ℕ) → T (not (eqb (r .number) n)) → (outcome (r ∷ rs) v .number ≡ n) ↔ (T (not (r .applies)) × (outcome rs v .number ≡ n))
 later n r rs v t = later-of (r .applies) (turnedBack r) (outcome rs v) n (apart (r .number) n t)
+
+-- n is one of the list
+abbrev pub isOneOf : ℕ → List ℕ → Bool
+isOneOf n [] = false
+isOneOf n (m ∷ ms) = eqb n m || isOneOf n ms
+
+one-more : (n m : ℕ) (ms : List ℕ) → T (isOneOf n (0 ∷ ms)) → T (isOneOf n (0 ∷ m ∷ ms))
+one-more n m ms = go (eqb n 0) (eqb n m) (isOneOf n ms)
+  where
+    go : (a b d : Bool) → T (a || d) → T (a || (b || d))
+    go true b d t = t
+    go false true d t = tt
+    go false false d t = t
+
+right-one : (a : Bool) (n : ℕ) (ms : List ℕ) → T (a || (eqb n n || isOneOf n ms))
+right-one true n ms = tt
+right-one false n ms = rw (eq-eqb n n refl) tt
+
+-- an answer's number is 0 or that of one of its refusals
+pub listed : (rs : List Refusal) (v : ℕ) → T (isOneOf (outcome rs v .number) (0 ∷ map (λ (r : Refusal). r .number) rs))
+listed [] v = tt
+listed (r ∷ rs) v =
+    chosen (λ o. T (isOneOf (o .number) (0 ∷ r .number ∷ map (λ (q : Refusal). q .number) rs))) (r .applies) (turnedBack r) (outcome rs v)
+    (right-one (eqb (r .number) 0) (r .number) (map (λ (q : Refusal). q .number) rs))
+    (one-more (outcome rs v .number) (r .number) (map (λ (q : Refusal). q .number) rs) (listed rs v))
 
 -- a call that is turned back has the value 0
 pub refused-value : (rs : List Refusal) (v : ℕ) → (outcome rs v .number ≡ 0 → ⊥) → outcome rs v .value ≡ 0

@@ -10,7 +10,7 @@ ghost use Rattle.precision.specs.Precision.{
   lengthOr0,
 };
 
-// A precision as it is ordered. Any number can be ordered; 1 to 12 are served.
+// A precision as it is asked for. Any number can be asked for; 1 to 12 are served.
 pub struct Precision(pub u32);
 
 // The image lengths of precisions 1 to 12, at k - 1.

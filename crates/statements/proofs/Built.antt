@@ -8,13 +8,13 @@ use native.Mathlib.Nat.{le-of-eq}
 use native.Mathlib.Omega.{arith}
 use lib.ListN.{length, take, drop}
 use lib.Seq.{drop-at}
-use lib.Dec.{ltb, lit<}
-use borrow.Author.Tests.{le-ltb, ltb-true, ltb-false}
+use lib.Dec.{eqb, ltb, lit<}
+use borrow.Author.Tests.{le-ltb, ltb-true, ltb-false, eqb-true, ne-eqb}
 use Rattle.precision.specs.Precision.{imageLength, wordCount, wordWidth}
 use Rattle.nodes.specs.Nodes.{node, decode, storedWord}
 use Rattle.packing.specs.Packing.{bitAt, bitOfWord}
 use Rattle.packing.proofs.Bits.{bit-of-packed}
-use Rattle.answers.specs.Refusal.{outcome, served}
+use Rattle.answers.specs.Refusal.{Outcome, outcome, served}
 use Rattle.image.specs.Image.{image, builtBuffer, afterImage, wordOf, isWrong, firstWrong}
 use Rattle.image.specs.Refusals.{precisionRefusal, bufferRefusal, nodeRefusal, imageRefusal, wordRefusal}
 use Rattle.image.specs.Calls.{buildOutcome, buildLeaves, noImage, checkOutcome, nodeOutcome}
@@ -24,24 +24,21 @@ use Rattle.image.proofs.Lowest.{lowest-none}
 use Rattle.image.proofs.Judging.{node-right, node-end}
 use Rattle.statements.specs.Terms.{IsPrecision, IsLongEnough, IsRightAt}
 use Rattle.statements.proofs.Nodes.{served-decodes}
-use Rattle.statements.proofs.Numbers.{kept-answer}
+use Rattle.statements.proofs.Numbers.{kept-answer, later-number}
 
--- what the builder leaves, by whether there is an image to write
-refused-of : (a b : Bool) → (outcome (record { applies = a; number = 1; place = 0 } ∷ record { applies = b; number = 2; place = 0 } ∷ []) 0 .number ≡ 0 → ⊥) → (a || b) ≡ true
-refused-of true b f = refl
-refused-of false true f = refl
-refused-of false false f = absurd (f refl)
-
+-- what the builder leaves, by its answer
 module _ (k : ℕ) (s : List ℕ) where
   pub left-as-found : (buildOutcome k s .number ≡ 0 → ⊥) → buildLeaves k s ≡ s
-  left-as-found f = rw (refused-of (precisionRefusal k .applies) (bufferRefusal k s .applies) f)
+  left-as-found f = rw (ne-eqb (buildOutcome k s .number) 0 f)
 
   by-image : (P : List ℕ → Type 0) → P s → (1 ≤ k → IsLongEnough k s → P (builtBuffer k s)) → P (buildLeaves k s)
-  by-image P found built = go (noImage k s) refl
+  by-image P found built = go (eqb (buildOutcome k s .number) 0) refl
     where
-      go : (b : Bool) → noImage k s ≡ b → P (cond b s (builtBuffer k s))
-      go true e = found
-      go false e = let kept = limit-kept k s (image-limit k s e) in built (kept .low) (kept .long)
+      go : (b : Bool) → eqb (buildOutcome k s .number) 0 ≡ b → P (cond b (builtBuffer k s) s)
+      go true e =
+          let t = later-number k s [] 0 0 tt tt .0 (eqb-true (buildOutcome k s .number) 0 e) in
+          built (t .0 .0) (t .1 .0)
+      go false e = found
 
   pub built-rest : drop (imageLength k) (buildLeaves k s) ≡ drop (imageLength k) s
   built-rest =
@@ -53,7 +50,7 @@ module _ (k : ℕ) (s : List ℕ) where
 
   -- a precision and a long enough buffer are built
   pub built : IsPrecision k → IsLongEnough k s → buildLeaves k s ≡ builtBuffer k s
-  built p l = rw (limit-image k s (limit-none k s (p .0) (p .1) l))
+  built p l = ap (λ (o : Outcome). cond (eqb (o .number) 0) (builtBuffer k s) s) (kept-answer k s [] 0 p l)
 
 module _ (k : ℕ) (s : List ℕ) (p : IsPrecision k) (l : IsLongEnough k s) where
   pub built-words : (j : ℕ) → j < 2 ^ k → IsRightAt k (buildLeaves k s) j

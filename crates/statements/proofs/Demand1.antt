@@ -8,10 +8,11 @@ use mathlib.Core.Path.{_≡_, _∙_}
 use mathlib.Core.Logic.{_↔_}
 use mathlib.Core.List.{List, [], _∷_}
 use Prim.Native.Nat.{ℕ, _+_, _-_, _*_, _/_, _^_, _≤_, _<_}
+use lib.Dec.{T}
 use lib.ListN.{length, drop, getD}
 use Rattle.precision.specs.Precision.{imageLength}
 use Rattle.nodes.specs.Nodes.{node, decode}
-use Rattle.answers.proofs.Order.{avoided, first, later, placed, value-of-0, refused-value, served-value}
+use Rattle.answers.proofs.Order.{isOneOf, listed, avoided, first, later, placed, value-of-0, refused-value, served-value}
 use Rattle.image.specs.Image.{wordOf}
 use Rattle.image.specs.Refusals.{nodeRefusal, imageRefusal, wordRefusal}
 use Rattle.image.specs.Calls.{buildRefusals, buildOutcome, buildLeaves, checkRefusals, checkOutcome, nodeRefusals, nodeOutcome, shownPart}
@@ -35,6 +36,10 @@ module _ (k : ℕ) (s : List ℕ) where
   -- whatever breaks none is served
   pub build-serves : (buildOutcome k s .number ≡ 0) ↔ (IsPrecision k × IsLongEnough k s)
   build-serves = joined (later-number k s [] 0 0 tt tt) (both same alone)
+
+  -- and there is no other number
+  pub build-numbers : T (isOneOf (buildOutcome k s .number) (0 ∷ 1 ∷ 2 ∷ []))
+  build-numbers = listed (buildRefusals k s) 0
 
   -- place and value are 0
   pub build-place : buildOutcome k s .place ≡ 0
@@ -72,6 +77,9 @@ module _ (k : ℕ) (s : List ℕ) where
       joined (later-number k s (imageRefusal k s ∷ []) 0 0 tt tt)
       (joined (both same (both same (joined (later 0 (imageRefusal k s) [] 0 tt) (joined alone (none-wrong k s))))) row3)
 
+  pub check-numbers : T (isOneOf (checkOutcome k s .number) (0 ∷ 1 ∷ 2 ∷ 6 ∷ []))
+  check-numbers = listed (checkRefusals k s) 0
+
   -- the place is 0 but under 6, and there it is the lowest wrong node: its word is wrong and every word before it is right
   pub check-place : (checkOutcome k s .number ≡ 6 → ⊥) → checkOutcome k s .place ≡ 0
   check-place = placed 6 (checkRefusals k s) 0 tt
@@ -106,6 +114,9 @@ module _ (k : ℕ) (s : List ℕ) (j : ℕ) where
   node-serves =
       joined (later-number k s (nodeRefusal k j ∷ wordRefusal k s j ∷ []) (decode k j (wordOf k s j)) 0 tt tt)
       (joined (both same (both same (node-number-0 k s j (decode k j (wordOf k s j))))) row4)
+
+  pub node-numbers : T (isOneOf (nodeOutcome k s j .number) (0 ∷ 1 ∷ 2 ∷ 3 ∷ 6 ∷ []))
+  node-numbers = listed (nodeRefusals k s j) (decode k j (wordOf k s j))
 
   -- the place is 0 but under 6, and there it is node j
   pub node-place-0 : (nodeOutcome k s j .number ≡ 6 → ⊥) → nodeOutcome k s j .place ≡ 0

@@ -9,6 +9,7 @@ use mathlib.Core.List.{List, [], _∷_, _++_, List·Memᴰ}
 use Prim.Native.Nat.{ℕ, _+_, _^_, _≤_, _<_}
 use lib.ListN.{length, take}
 use Rattle.decimal.specs.Decimal.{decimal, isDigits, decimalValue}
+use Rattle.decimal.proofs.Laws.{decimal-digits, value-decimal}
 use Rattle.precision.proofs.Range.{range-in}
 use Rattle.table_text.specs.TableText.{precisionOf, line, lines, header, tableText, refusedText, longestText, lineFeed}
 use Rattle.table_text.proofs.Sizes.{text-fits}
@@ -28,15 +29,22 @@ number-requests = Requests.request-of-number
 pub request-digits : (s : List ℕ) → (precisionOf s ≡ 0 → ⊥) → (d : List ℕ) × (isDigits d ≡ true) × (length d ≤ 9) × (s ≡ d ++ lineFeed ∷ []) × (precisionOf s ≡ decimalValue d)
 request-digits = Requests.request-is-digits
 
--- where the precision is in range, the first line and then the lines of nodes 0 to 2^k are printed
-pub prints-table : (s : List ℕ) → IsPrecision (precisionOf s) → tableText s ≡ header (precisionOf s) ++ lines (precisionOf s) (2 ^ precisionOf s + 1)
-prints-table s p = Requests.text-in-range s (range-in (precisionOf s) (p .0) (p .1))
+-- digits that stand for a precision get the first line and then the lines of nodes 0 to 2^k
+pub prints-table : (d : List ℕ) → isDigits d ≡ true → length d ≤ 9 → IsPrecision (decimalValue d)
+    → tableText (d ++ lineFeed ∷ []) ≡ header (decimalValue d) ++ lines (decimalValue d) (2 ^ decimalValue d + 1)
+prints-table d e l p =
+    let asks = digits-request d e l in
+    rw asks at (Requests.text-in-range (d ++ lineFeed ∷ []) (rw asks (range-in (decimalValue d) (p .0) (p .1))))
 
--- and where it is not, the refusal
-pub prints-refusal : (s : List ℕ) → (IsPrecision (precisionOf s) → ⊥) → tableText s ≡ refusedText
-prints-refusal = Requests.text-out-of-range
+-- and digits that stand for another number are refused
+pub prints-refusal : (d : List ℕ) → isDigits d ≡ true → length d ≤ 9 → (IsPrecision (decimalValue d) → ⊥) → tableText (d ++ lineFeed ∷ []) ≡ refusedText
+prints-refusal d e l f = Requests.text-out-of-range (d ++ lineFeed ∷ []) (rw (digits-request d e l) f)
 
--- so input that is not 1 to 9 digits and a line feed is refused
+-- the digits that are printed for a number stand for it
+pub printed-digits : (n : ℕ) → n < 10 ^ 20 → (isDigits (decimal n) ≡ true) × (decimalValue (decimal n) ≡ n)
+printed-digits n h = (decimal-digits n, value-decimal n h)
+
+-- so is input that is not 1 to 9 digits and a line feed
 pub other-input : (s : List ℕ) → ((d : List ℕ) → isDigits d ≡ true → length d ≤ 9 → s ≡ d ++ lineFeed ∷ [] → ⊥) → tableText s ≡ refusedText
 other-input = Requests.text-of-other
 

@@ -63,11 +63,12 @@ loop-less c = omega arith
 
 loop-again : tie.Need-loop-again Inv-loop μ-loop
 loop-again c =
-    let at = c .before .before .before in
-    (omega arith,
-    below-more _ _ (at .before .loop .inv .1)
-    (is-right (at .before .before .before .pre) (at .before .loop .j) (at .loop-test .taken)
-    (λ e. c .if1 .left (c .before .before .judged-word .ensures ∙ e))))
+    let at = c .before .before .before in (
+      omega arith,
+      below-more _ _ (at .before .loop .inv .1)
+          (is-right (at .before .before .before .pre) (at .before .loop .j) (at .loop-test .taken)
+          (λ e. c .if1 .left (c .before .before .judged-word .ensures ∙ e))),
+    )
 
 returns-2 : tie.Need-returns-2 Inv-loop μ-loop
 returns-2 c =
