@@ -161,7 +161,7 @@ def edits_named():
 
 
 # What is said where a proof file does not fit the code at all: such a refusal shows nothing about the wrong program.
-NOT_A_FACT = ("that can be named from here", "expected type `tie.Need-")
+NOT_A_FACT = ("that can be named from here", "expected type `tie.Need-", ": error[")
 
 
 def complaint(log):

@@ -1,14 +1,14 @@
 -- The laws of the nodes, of their words and of decoding, at every k.
 -- Assumes nothing.
 use mathlib.Core.Path.{_≡_, refl, sym, ap, _∙_}
-use mathlib.Core.Bool.{Bool, true, false, cond, not, _&&_, and-eq-true-iff, and-false}
+use mathlib.Core.Bool.{true, false, cond, not, and-false}
 use Prim.Native.Nat.{ℕ, _+_, _-_, _*_, _%_, _^_, _≤_, _<_}
 use native.Mathlib.Nat.{mod-lt, lt-of-not-le, zero-mul}
 use native.Mathlib.Omega.{arith}
-use lib.Dec.{ltb, eqb}
+use lib.Dec.{eqb}
 use lib.Pow.{pow-pos, pow-lt}
-use borrow.Author.Tests.{eq-eqb, ne-eqb, eqb-true, ltb-true, le-leb, lt-leb, lt-ltb, le-ltb}
-use Rattle.precision.specs.Precision.{wordWidth, inRange, wordsOr0}
+use borrow.Author.Tests.{eq-eqb, ne-eqb, eqb-true, le-leb, lt-leb}
+use Rattle.precision.specs.Precision.{wordWidth, inRange}
 use Rattle.quotient.specs.Quotient.{roundedUp, roundsUp}
 use Rattle.quotient.proofs.Laws.{reaches, antitone}
 use Rattle.nodes.specs.Nodes.{node, storedWord, decodeUnder, decode, isRight, judged, nodeOr0}

@@ -1,7 +1,7 @@
 -- What the builder leaves, and what is read of it.
 -- Assumes nothing.
 use mathlib.Core.Path.{_≡_, refl, sym, _∙_, ap}
-use mathlib.Core.Bool.{Bool, true, false, cond, _||_}
+use mathlib.Core.Bool.{Bool, true, false, cond}
 use mathlib.Core.List.{List, [], _∷_, append-nil}
 use Prim.Native.Nat.{ℕ, _+_, _*_, _%_, _^_, _≤_, _<_}
 use native.Mathlib.Nat.{le-of-eq}
@@ -16,10 +16,9 @@ use Rattle.packing.specs.Packing.{bitAt, bitOfWord}
 use Rattle.packing.proofs.Bits.{bit-of-packed}
 use Rattle.answers.specs.Refusal.{Outcome, outcome, served}
 use Rattle.image.specs.Image.{image, builtBuffer, afterImage, wordOf, isWrong, firstWrong}
-use Rattle.image.specs.Refusals.{precisionRefusal, bufferRefusal, nodeRefusal, imageRefusal, wordRefusal}
-use Rattle.image.specs.Calls.{buildOutcome, buildLeaves, noImage, checkOutcome, nodeOutcome}
+use Rattle.image.specs.Refusals.{nodeRefusal, imageRefusal, wordRefusal}
+use Rattle.image.specs.Calls.{buildOutcome, buildLeaves, checkOutcome, nodeOutcome}
 use Rattle.image.proofs.Laws.{built-front, image-length, image-word, built-length, right-not-wrong, stored-lt}
-use Rattle.image.proofs.Limits.{limit-none, limit-image, limit-kept, image-limit}
 use Rattle.image.proofs.Lowest.{lowest-none}
 use Rattle.image.proofs.Judging.{node-right, node-end}
 use Rattle.statements.specs.Terms.{IsPrecision, IsLongEnough, IsRightAt}
