@@ -37,11 +37,7 @@ pub fn numerator(k: Precision) -> u64
 pub fn lead(k: Precision) -> u32
     ensures { λ r. ⌜ r ≡ leadOr0 (k .0) ⌝ }
 {
-    if k.in_range() {
-        bits::power(2 * k.0 + 2) as u32
-    } else {
-        0
-    }
+    if k.in_range() { 1 << (2 * k.0 + 2) } else { 0 }
 }
 
 // The value of a word at node j, where it is numerator / (first + j) rounded up, and 0 where it is not. It multiplies and does

@@ -9,6 +9,8 @@ use mathlib.Core.List.{List}
 use Prim.Native.Nat.{ℕ, _+_, _-_, _*_, _/_, _%_, _^_, _≤_, _<_}
 use lib.ListN.{length, take, getD}
 use Rattle.precision.specs.Precision.{imageLength}
+use Rattle.units.specs.Units.{tableUnitsInOne, ulpsInOne}
+use Rattle.units.proofs.Laws.{ulp-in-units}
 use Rattle.nodes.specs.Nodes.{node}
 use Rattle.nodes.proofs.Nodes.{node-first, node-last, node-above, node-below, node-falls}
 use Rattle.quotient.proofs.Laws.{reaches, least}
@@ -32,6 +34,10 @@ module _ (k : ℕ) where
 
   pub node-least : (j c : ℕ) → 2 ^ (3 * k + 3) ≤ c * (2 ^ k + j) → node k j ≤ c
   node-least j = least (2 ^ (3 * k + 3)) (2 ^ k + j) (Nodes.index-positive k j)
+
+  -- a node is counted in table units and a reciprocal in ulps: one ulp is four table units
+  pub ulp-in-table-units : tableUnitsInOne k ≡ 4 * ulpsInOne k
+  ulp-in-table-units = ulp-in-units k
 
   -- c(0) = 2^(2k+3) and c(2^k) = 2^(2k+2)
   pub first-node : node k 0 ≡ 2 ^ (2 * k + 3)

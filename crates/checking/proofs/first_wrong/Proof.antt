@@ -51,8 +51,9 @@ returns c =
     let start = at .before .before .before in
     let a = start .args in
     let j = at .before .loop .j in
-    sym (lowest-is (wrong (a .image .now) (a .width) (a .numerator) (a .first)) (a .count) j (at .loop-test .taken)
-    (is-wrong (start .pre) j (at .loop-test .taken) (sym (c .before .before .judged-word .ensures) ∙ c .if1 .taken))
+    let l : j < a .count = omega (arith, at .loop-test .taken) in
+    sym (lowest-is (wrong (a .image .now) (a .width) (a .numerator) (a .first)) (a .count) j l
+    (is-wrong (start .pre) j l (sym (c .before .before .judged-word .ensures) ∙ c .if1 .taken))
     (at .before .loop .inv .1))
 
 add-j : tie.Need-add-j Inv-loop μ-loop
@@ -66,7 +67,7 @@ loop-again c =
     let at = c .before .before .before in (
       omega arith,
       below-more _ _ (at .before .loop .inv .1)
-          (is-right (at .before .before .before .pre) (at .before .loop .j) (at .loop-test .taken)
+          (is-right (at .before .before .before .pre) (at .before .loop .j) (omega (arith, at .loop-test .taken))
           (λ e. c .if1 .left (c .before .before .judged-word .ensures ∙ e))),
     )
 

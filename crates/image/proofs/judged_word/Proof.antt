@@ -1,6 +1,7 @@
 -- `image::judged_word` meets its contract: a word of at most 32 bits is read and judged.
 -- Assumes nothing.
 use mathlib.Core.Path.{_∙_, ap}
+use Prim.Native.Nat.{_≤_}
 use native.Mathlib.Omega.{arith}
 use lib.Pow.{pow-mono}
 use borrow.Author.Needs.{needs}
@@ -11,7 +12,7 @@ use Rattle.image.proofs.judged_word.Statement.{statement}
 use Rattle.image.proofs.judged_word.Tie as tie
 
 returns : tie.Need-returns
-returns c = rw (lt-leb (c .before .before .args .width) 32 (c .if1 .taken))
+returns c = rw (lt-leb (c .before .before .args .width) 32 (omega (arith, c .if1 .taken)))
 
 word-requires : tie.Need-word-requires
 word-requires c κs = search needs
@@ -19,7 +20,8 @@ word-requires c κs = search needs
 cast-judge : tie.Need-cast-judge
 cast-judge c =
     let a = c .before .before .before .args in
-    omega (arith, c .word .ensures .0, read-lt (a .width) (a .image .now) (a .j), pow-mono (c .before .if1 .left))
+    let top : a .width ≤ 32 = omega (arith, c .before .if1 .left) in
+    omega (arith, c .word .ensures .0, read-lt (a .width) (a .image .now) (a .j), pow-mono top)
 
 judge-requires : tie.Need-judge-requires
 judge-requires c κs = search needs
@@ -27,7 +29,7 @@ judge-requires c κs = search needs
 returns-2 : tie.Need-returns-2
 returns-2 c =
     let a = c .before .before .before .before .args in
-    rw (le-leb (a .width) 32 (c .before .before .if1 .left))
+    rw (le-leb (a .width) 32 (omega (arith, c .before .before .if1 .left)))
     (c .judge .ensures ∙ ap (judged (a .numerator) (a .first) (a .lead) (a .j)) (c .before .word .ensures .0))
 
 pub judged-word-spec : {M : Type 1} → statement M

@@ -1,12 +1,12 @@
--- `nodes::lead` meets its contract: a power of two where k is a precision.
+-- `nodes::lead` meets its contract: a shifted one where k is a precision.
 -- Assumes nothing.
 use mathlib.Core.Path.{_≡_, sym, _∙_}
 use mathlib.Core.Bool.{true, false}
-use Prim.Native.Nat.{_+_, _*_, _≤_, _<_}
+use Prim.Native.Nat.{_+_, _*_, _^_, _≤_, _<_}
+use native.Mathlib.Nat.{one-mul, mod-eq-of-lt}
 use native.Mathlib.Omega.{arith}
-use lib.Pow.{pow-mono}
+use lib.Pow.{pow-lt}
 use borrow.Author.Needs.{needs}
-use Rattle.bits.proofs.Laws.{power-fits}
 use Rattle.precision.specs.Precision.{inRange}
 use Rattle.precision.proofs.Range.{in-range}
 use Rattle.nodes.proofs.lead.Statement.{statement}
@@ -22,26 +22,20 @@ small c = in-range (c .before .before .args .k .0) (ranged c) .1
 in-range-requires : tie.Need-in-range-requires
 in-range-requires c κs = search needs
 
-mul-power : tie.Need-mul-power
-mul-power c = omega (arith, small (c .before))
+mul-result : tie.Need-mul-result
+mul-result c = omega (arith, small (c .before))
 
-add-power : tie.Need-add-power
-add-power c = omega (arith, small (c .before))
+add-result : tie.Need-add-result
+add-result c = omega (arith, small (c .before))
 
-power-requires : tie.Need-power-requires
-power-requires c κs = search needs
-
-cast-result : tie.Need-cast-result
-cast-result c =
-    let k = c .before .before .before .before .args .k .0 in
-    let top : 2 * k + 2 ≤ 26 = omega (arith, small (c .before .before)) in
-    rw (c .power .ensures ∙ power-fits (2 * k + 2) (omega arith)) (record { fits = omega (arith, pow-mono top) })
+shl-result : tie.Need-shl-result
+shl-result c = omega (arith, small (c .before))
 
 returns : tie.Need-returns
 returns c =
-    let k = c .before .before .before .before .args .k .0 in
-    let top : 2 * k + 2 < 64 = omega (arith, small (c .before .before)) in
-    rw (ranged (c .before .before)) (c .power .ensures ∙ power-fits (2 * k + 2) top)
+    let k = c .before .before .before .args .k .0 in
+    let top : 2 * k + 2 < 32 = omega (arith, small (c .before)) in
+    rw (ranged (c .before), one-mul (2 ^ (2 * k + 2))) (mod-eq-of-lt (pow-lt top))
 
 returns-2 : tie.Need-returns-2
 returns-2 c =
@@ -50,5 +44,4 @@ returns-2 c =
 
 pub lead-spec : {M : Type 1} → statement M
 lead-spec =
-    tie.close
-    (tie.spec in-range-requires mul-power add-power power-requires cast-result returns returns-2)
+    tie.close (tie.spec in-range-requires mul-result add-result shl-result returns returns-2)
