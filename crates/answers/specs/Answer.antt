@@ -3,6 +3,7 @@
 use Rattle.answers.specs.Refusal.{Outcome}
 use Rattle.answers.specs.declared.Done.{Done}
 use Rattle.answers.specs.declared.NodeRead.{NodeRead}
+use Rattle.answers.specs.declared.ReciprocalGiven.{ReciprocalGiven}
 
 -- an outcome as the answer of the builder or of the check
 abbrev pub done : Outcome → Done
@@ -11,3 +12,7 @@ done o = record { number = o .number; place = o .place; value = o .value }
 -- an outcome as the answer of reading a node, its value in table units
 abbrev pub nodeRead : Outcome → NodeRead
 nodeRead o = record { number = o .number; place = o .place; value = record { 0 = o .value } }
+
+-- an outcome as the answer of the reciprocal, its value in ulps
+abbrev pub reciprocalGiven : Outcome → ReciprocalGiven
+reciprocalGiven o = record { number = o .number; place = o .place; value = record { 0 = o .value } }

@@ -1,5 +1,6 @@
 // What a call answers: the number of a refusal or 0, its place, and the value of a served call.
 use units::TableUnits;
+use units::Ulps;
 
 // The answer of the builder and of the check, whose value is always 0.
 pub struct Done {
@@ -13,4 +14,11 @@ pub struct NodeRead {
     pub number: u32,
     pub place: u64,
     pub value: TableUnits,
+}
+
+// The answer of the reciprocal.
+pub struct ReciprocalGiven {
+    pub number: u32,
+    pub place: u64,
+    pub value: Ulps,
 }

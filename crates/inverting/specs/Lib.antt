@@ -1,0 +1,3 @@
+pub mod Reciprocal
+pub mod Calls
+pub mod Cut

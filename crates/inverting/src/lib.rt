@@ -1,0 +1,82 @@
+// The reciprocal of an operand by an image.
+ghost use mathlib.Core.Path.{_≡_};
+ghost use Rattle.answers.specs.Answer.{reciprocalGiven};
+ghost use Rattle.interpolation.specs.Algorithm.{productSum, chopped};
+ghost use Rattle.inverting.specs.Calls.{cutOutcome, reciprocalOutcome};
+ghost use Rattle.inverting.specs.Cut.{IsCut, IsPiece};
+use answers::ReciprocalGiven;
+use precision::Precision;
+use units::TableUnits;
+use units::Ulps;
+
+// R at the fraction f of a piece whose nodes are c and d.
+fn interpolated(k: Precision, c: TableUnits, d: TableUnits, f: u64) -> Ulps
+    requires { ⌜ IsPiece (k .0) (c .0) (d .0) f ⌝ }
+    ensures { λ r. ⌜ r .0 ≡ chopped (k .0) (productSum (k .0) (c .0) (d .0) f) ⌝ }
+{
+    let sum = c.0 * bits::power(k.0 + 3) - (c.0 - d.0) * f;
+    Ulps(bits::high(sum, k.0 + 5))
+}
+
+// The reciprocal of a cut operand t, where k and the image keep their limits. The words of both ends of its piece are judged, the
+// lower one first; at the last piece the upper node is implied.
+fn of_cut(k: Precision, image: &[u8], t: u64) -> ReciprocalGiven
+    requires { ⌜ IsCut (k .0) (now image) t ⌝ }
+    ensures { λ r. ⌜ r ≡ reciprocalGiven (cutOutcome (k .0) (now (image .entry)) t) ⌝ }
+{
+    let count = k.word_count();
+    let width = k.word_width() as u32;
+    let numerator = nodes::numerator(k);
+    let lead = nodes::lead(k);
+    let piece = k.0 + 3;
+    let j = bits::high(t, piece) as u32 - count;
+    let c = image::judged_word(image, width, numerator, count, lead, j);
+    if c.0 == 0 {
+        return ReciprocalGiven {
+            number: 6,
+            place: j as u64,
+            value: Ulps(0),
+        };
+    }
+    let next = j + 1;
+    let d = if next == count {
+        TableUnits(lead as u64)
+    } else {
+        image::judged_word(image, width, numerator, count, lead, next)
+    };
+    if d.0 == 0 {
+        return ReciprocalGiven {
+            number: 6,
+            place: next as u64,
+            value: Ulps(0),
+        };
+    }
+    ReciprocalGiven {
+        number: 0,
+        place: 0,
+        value: interpolated(k, c, d, bits::low(t, piece)),
+    }
+}
+
+// The reciprocal of the operand x, which has n fraction bits.
+pub fn reciprocal(k: Precision, image: &[u8], n: u32, x: u64) -> ReciprocalGiven
+    ensures { λ r. ⌜ r ≡ reciprocalGiven (reciprocalOutcome (k .0) (now (image .entry)) n x) ⌝ }
+{
+    let limit = image::broken_limit(k, image.len());
+    if limit != 0 {
+        return ReciprocalGiven {
+            number: limit,
+            place: 0,
+            value: Ulps(0),
+        };
+    }
+    let number = operand::broken_limit(k, n, x);
+    if number != 0 {
+        return ReciprocalGiven {
+            number,
+            place: 0,
+            value: Ulps(0),
+        };
+    }
+    of_cut(k, image, operand::cut(k, n, x))
+}

@@ -1,0 +1,18 @@
+-- The refusals of an operand, each a definition of its own (document 01, "Turned back, in checking order").
+-- Assumes nothing.
+use Prim.Native.Nat.{ℕ}
+use mathlib.Core.Bool.{Bool, cond, not}
+use Rattle.answers.specs.Refusal.{Refusal}
+use Rattle.operand.specs.Operand.{isFractionCount, isNormalised}
+
+-- 4: n is below 2k + 3 or above 63
+abbrev pub fractionRefusal : ℕ → ℕ → Refusal
+fractionRefusal k n = record { applies = not (isFractionCount k n); number = 4; place = 0 }
+
+-- 5: X is not from 2^n to 2^(n+1) - 1
+abbrev pub operandRefusal : ℕ → ℕ → Refusal
+operandRefusal n X = record { applies = not (isNormalised n X); number = 5; place = 0 }
+
+-- the number of the first of these two that applies, 0 where neither does
+abbrev pub brokenOperand : ℕ → ℕ → ℕ → ℕ
+brokenOperand k n X = cond (not (isFractionCount k n)) 4 (cond (not (isNormalised n X)) 5 0)
