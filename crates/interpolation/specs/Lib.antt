@@ -1,1 +1,3 @@
 pub mod Algorithm
+pub mod Reciprocal
+pub mod Calls

@@ -2,7 +2,7 @@
 ghost use mathlib.Core.Path.{_≡_};
 ghost use Rattle.answers.specs.Answer.{reciprocalGiven};
 ghost use Rattle.interpolation.specs.Algorithm.{productSum, chopped};
-ghost use Rattle.inverting.specs.Calls.{cutOutcome, reciprocalOutcome};
+ghost use Rattle.interpolation.specs.Calls.{cutOutcome, reciprocalOutcome};
 ghost use Rattle.inverting.specs.Cut.{IsCut, IsPiece};
 use answers::ReciprocalGiven;
 use precision::Precision;

@@ -6,8 +6,8 @@ use Rattle.answers.specs.Refusal.{Refusal, Outcome, outcome}
 use Rattle.image.specs.Refusals.{precisionRefusal, bufferRefusal, wordRefusal}
 use Rattle.operand.specs.Operand.{cutOperand}
 use Rattle.operand.specs.Refusals.{fractionRefusal, operandRefusal}
 use Rattle.interpolation.specs.Algorithm.{nodeNumber}
-use Rattle.inverting.specs.Reciprocal.{readReciprocal}
+use Rattle.interpolation.specs.Reciprocal.{readReciprocal}
 
 -- the refusals of a cut operand t: 6 for the word of node j, then for that of node j + 1, which is not read where it is node 2^k
 abbrev pub cutRefusals : ℕ → List ℕ → ℕ → List Refusal
