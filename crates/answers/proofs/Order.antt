@@ -1,13 +1,12 @@
 -- What the order of a list of refusals means for the number, the place and the value of an answer, for any list.
 -- Assumes nothing.
 use mathlib.Core.Path.{_≡_, refl, sym}
-use mathlib.Core.Logic.{_↔_}
+use mathlib.Core.Logic.{_↔_, _⊎_, inl, inr, ⊎-elim}
 use mathlib.Core.Bool.{Bool, true, false, cond, not, _&&_, _||_}
-use mathlib.Core.List.{List, [], _∷_, map}
+use mathlib.Core.List.{List, [], _∷_}
 use Prim.Native.Nat.{ℕ}
 use lib.Dec.{T, eqb, eqb→eq, eqb-refl, T-not}
 use Rattle.bools.proofs.Bools.{both}
-use borrow.Author.Tests.{eq-eqb}
 use Rattle.answers.specs.Refusal.{Refusal, Outcome, outcome, turnedBack}
 
 -- n is neither 0 nor the number of a refusal in the list
@@ -58,30 +57,45 @@ later-of false x y n f = (λ h. (tt, h), λ t. t .1)
 pub later : (n : ℕ) (r : Refusal) (rs : List Refusal) (v : ℕ) → T (not (eqb (r .number) n)) → (outcome (r ∷ rs) v .number ≡ n) ↔ (T (not (r .applies)) × (outcome rs v .number ≡ n))
 later n r rs v t = later-of (r .applies) (turnedBack r) (outcome rs v) n (apart (r .number) n t)
 
+shared-of : (b : Bool) (x y : Outcome) (n : ℕ) → x .number ≡ n → (cond b x y .number ≡ n) ↔ (T b ⊎ (y .number ≡ n))
+shared-of true x y n e = (λ h. inl tt, λ u. e)
+shared-of false x y n e = (λ h. inr h, λ u. ⊎-elim (λ t. absurd t) (λ h. h) u)
+
+-- where refusals after the first may have its number too, it is the answer's exactly when the first applies or those after it give it
+pub shared : (r : Refusal) (rs : List Refusal) (v : ℕ) → (outcome (r ∷ rs) v .number ≡ r .number) ↔ (T (r .applies) ⊎ (outcome rs v .number ≡ r .number))
+shared r rs v = shared-of (r .applies) (turnedBack r) (outcome rs v) (r .number) refl
+
+turned-of : (b : Bool) (x y : Outcome) → T b → cond b x y ≡ x
+turned-of true x y t = refl
+turned-of false x y t = absurd t
+
+kept-of : (b : Bool) (x y : Outcome) → T (not b) → cond b x y ≡ y
+kept-of true x y t = absurd t
+kept-of false x y t = refl
+
+-- the whole answer, by whether the first refusal applies
+pub refuses : (r : Refusal) (rs : List Refusal) (v : ℕ) → T (r .applies) → outcome (r ∷ rs) v ≡ turnedBack r
+refuses r rs v = turned-of (r .applies) (turnedBack r) (outcome rs v)
+
+pub lets-by : (r : Refusal) (rs : List Refusal) (v : ℕ) → T (not (r .applies)) → outcome (r ∷ rs) v ≡ outcome rs v
+lets-by r rs v = kept-of (r .applies) (turnedBack r) (outcome rs v)
+
 -- n is one of the list
 abbrev pub isOneOf : ℕ → List ℕ → Bool
 isOneOf n [] = false
 isOneOf n (m ∷ ms) = eqb n m || isOneOf n ms
 
-one-more : (n m : ℕ) (ms : List ℕ) → T (isOneOf n (0 ∷ ms)) → T (isOneOf n (0 ∷ m ∷ ms))
-one-more n m ms = go (eqb n 0) (eqb n m) (isOneOf n ms)
-  where
-    go : (a b d : Bool) → T (a || d) → T (a || (b || d))
-    go true b d t = t
-    go false true d t = tt
-    go false false d t = t
+-- each refusal of the list has a number among ms
+abbrev pub among : List ℕ → List Refusal → Bool
+among ms [] = true
+among ms (r ∷ rs) = isOneOf (r .number) ms && among ms rs
 
-right-one : (a : Bool) (n : ℕ) (ms : List ℕ) → T (a || (eqb n n || isOneOf n ms))
-right-one true n ms = tt
-right-one false n ms = rw (eq-eqb n n refl) tt
-
--- an answer's number is 0 or that of one of its refusals
-pub listed : (rs : List Refusal) (v : ℕ) → T (isOneOf (outcome rs v .number) (0 ∷ map (λ (r : Refusal). r .number) rs))
-listed [] v = tt
-listed (r ∷ rs) v =
-    chosen (λ o. T (isOneOf (o .number) (0 ∷ r .number ∷ map (λ (q : Refusal). q .number) rs))) (r .applies) (turnedBack r) (outcome rs v)
-    (right-one (eqb (r .number) 0) (r .number) (map (λ (q : Refusal). q .number) rs))
-    (one-more (outcome rs v .number) (r .number) (map (λ (q : Refusal). q .number) rs) (listed rs v))
+-- an answer's number is one of any list that has 0 and the numbers of its refusals
+pub listed : (ms : List ℕ) (rs : List Refusal) (v : ℕ) → T (isOneOf 0 ms) → T (among ms rs) → T (isOneOf (outcome rs v .number) ms)
+listed ms [] v z t = z
+listed ms (r ∷ rs) v z t =
+    let all = both (isOneOf (r .number) ms) (among ms rs) t in
+    chosen (λ o. T (isOneOf (o .number) ms)) (r .applies) (turnedBack r) (outcome rs v) (all .0) (listed ms rs v z (all .1))
 
 -- a call that is turned back has the value 0
 pub refused-value : (rs : List Refusal) (v : ℕ) → (outcome rs v .number ≡ 0 → ⊥) → outcome rs v .value ≡ 0

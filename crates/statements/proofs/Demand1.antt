@@ -39,7 +39,7 @@ module _ (k : ℕ) (s : List ℕ) where
 
   -- and there is no other number
   pub build-numbers : T (isOneOf (buildOutcome k s .number) (0 ∷ 1 ∷ 2 ∷ []))
-  build-numbers = listed (buildRefusals k s) 0
+  build-numbers = listed (0 ∷ 1 ∷ 2 ∷ []) (buildRefusals k s) 0 tt tt
 
   -- place and value are 0
   pub build-place : buildOutcome k s .place ≡ 0
@@ -78,7 +78,7 @@ module _ (k : ℕ) (s : List ℕ) where
       (joined (both same (both same (joined (later 0 (imageRefusal k s) [] 0 tt) (joined alone (none-wrong k s))))) row3)
 
   pub check-numbers : T (isOneOf (checkOutcome k s .number) (0 ∷ 1 ∷ 2 ∷ 6 ∷ []))
-  check-numbers = listed (checkRefusals k s) 0
+  check-numbers = listed (0 ∷ 1 ∷ 2 ∷ 6 ∷ []) (checkRefusals k s) 0 tt tt
 
   -- the place is 0 but under 6, and there it is the lowest wrong node: its word is wrong and every word before it is right
   pub check-place : (checkOutcome k s .number ≡ 6 → ⊥) → checkOutcome k s .place ≡ 0
@@ -116,7 +116,7 @@ module _ (k : ℕ) (s : List ℕ) (j : ℕ) where
       (joined (both same (both same (node-number-0 k s j (decode k j (wordOf k s j))))) row4)
 
   pub node-numbers : T (isOneOf (nodeOutcome k s j .number) (0 ∷ 1 ∷ 2 ∷ 3 ∷ 6 ∷ []))
-  node-numbers = listed (nodeRefusals k s j) (decode k j (wordOf k s j))
+  node-numbers = listed (0 ∷ 1 ∷ 2 ∷ 3 ∷ 6 ∷ []) (nodeRefusals k s j) (decode k j (wordOf k s j)) tt tt
 
   -- the place is 0 but under 6, and there it is node j
   pub node-place-0 : (nodeOutcome k s j .number ≡ 6 → ⊥) → nodeOutcome k s j .place ≡ 0

@@ -1,12 +1,12 @@
 -- Tests as the facts that they stand for, and joined equivalences.
 -- Assumes nothing.
 use mathlib.Core.Path.{_≡_, refl}
-use mathlib.Core.Logic.{_↔_}
+use mathlib.Core.Logic.{_↔_, _⊎_, inl, inr, ⊎-elim}
 use mathlib.Core.Bool.{Bool, true, false, not, _&&_}
 use mathlib.Core.List.{List}
 use Prim.Native.Nat.{ℕ, _^_, _≤_, _<_}
 use native.Mathlib.Omega.{arith}
-use lib.Dec.{T, ltb, ltb→lt, lt→ltb, nltb→le, not-T, T-not}
+use lib.Dec.{T, ltb, ltb→lt, lt→ltb, nltb→le, not-T}
 use lib.Arith.{le→nltb}
 use borrow.Author.Tests.{lt-ltb}
 use Rattle.bools.proofs.Bools.{clash}
@@ -15,7 +15,9 @@ use Rattle.precision.proofs.Range.{in-range, range-in}
 use Rattle.image.specs.Image.{isWrong, firstWrong}
 use Rattle.image.proofs.Laws.{not-wrong, right-not-wrong}
 use Rattle.image.proofs.Lowest.{lowest-passes, lowest-before, lowest-none}
-use Rattle.statements.specs.Terms.{IsPrecision, IsRightAt}
+use Rattle.operand.specs.Operand.{isFractionCount, isNormalised}
+use Rattle.operand.proofs.Limits.{count-in, in-count, normalised-in, in-normalised}
+use Rattle.statements.specs.Terms.{IsPrecision, IsRightAt, IsFractionCount, IsNormalised}
 
 pub joined : {A B C : Type 0} → A ↔ B → B ↔ C → A ↔ C
 joined f g = (λ a. g .0 (f .0 a), λ c. f .1 (g .1 c))
@@ -26,6 +28,13 @@ same = (λ a. a, λ a. a)
 pub both : {A B C D : Type 0} → A ↔ C → B ↔ D → (A × B) ↔ (C × D)
 both f g = (λ t. (f .0 (t .0), g .0 (t .1)), λ t. (f .1 (t .0), g .1 (t .1)))
 
+-- under a fact that both sides share
+pub under : {A B C : Type 0} → (A → B ↔ C) → (A × B) ↔ (A × C)
+under f = (λ t. (t .0, f (t .0) .0 (t .1)), λ t. (t .0, f (t .0) .1 (t .1)))
+
+pub either : {A B C D : Type 0} → A ↔ C → B ↔ D → (A ⊎ B) ↔ (C ⊎ D)
+either f g = (⊎-elim (λ a. inl (f .0 a)) (λ b. inr (g .0 b)), ⊎-elim (λ c. inl (f .1 c)) (λ d. inr (g .1 d)))
+
 -- nested pairs as one row
 pub row3 : {A B C : Type 0} → (A × (B × C)) ↔ (A × B × C)
 row3 = (λ t. (t .0, t .1 .0, t .1 .1), λ t. (t .0, (t .1, t .2)))
@@ -33,31 +42,49 @@ row3 = (λ t. (t .0, t .1 .0, t .1 .1), λ t. (t .0, (t .1, t .2)))
 pub row4 : {A B C D : Type 0} → (A × (B × (C × D))) ↔ (A × B × C × D)
 row4 = (λ t. (t .0, t .1 .0, t .1 .1 .0, t .1 .1 .1), λ t. (t .0, (t .1, (t .2, t .3))))
 
--- a test that passed, as an equation, and the other way round
-pub passed : (b : Bool) → T b → b ≡ true
-passed true t = refl
-passed false t = absurd t
+pub row5 : {A B C D E : Type 0} → (A × (B × (C × (D × E)))) ↔ (A × B × C × D × E)
+row5 = (λ t. (t .0, t .1 .0, t .1 .1 .0, t .1 .1 .1 .0, t .1 .1 .1 .1), λ t. (t .0, (t .1, (t .2, (t .3, t .4)))))
 
+pub row6 : {A B C D E F : Type 0} → (A × (B × (C × (D × (E × F))))) ↔ (A × B × C × D × E × F)
+row6 = (λ t. (t .0, t .1 .0, t .1 .1 .0, t .1 .1 .1 .0, t .1 .1 .1 .1 .0, t .1 .1 .1 .1 .1), λ t. (t .0, (t .1, (t .2, (t .3, (t .4, t .5))))))
+
+-- a test that failed, as an equation, and an equation as a test that passed
 pub failed : (b : Bool) → T (not b) → b ≡ false
 failed true t = absurd t
 failed false t = refl
 
-pub passes : (b : Bool) → b ≡ true → T b
+passes : (b : Bool) → b ≡ true → T b
 passes b e = rw e tt
 
-pub fails : (b : Bool) → b ≡ false → T (not b)
-fails b e = rw e tt
+-- the test of a limit, as the fact that it stands for: where the limit is kept, and where it is broken
+pub kept : (b : Bool) {A : Type 0} → (b ≡ true → A) → (A → b ≡ true) → T (not (not b)) ↔ A
+kept true to from = (λ t. to refl, λ a. tt)
+kept false to from = (λ t. absurd t, λ a. clash (from a) refl)
+
+pub broken : (b : Bool) {A : Type 0} → (b ≡ true → A) → (A → b ≡ true) → T (not b) ↔ (A → ⊥)
+broken true to from = (λ t. absurd t, λ f. f (to refl))
+broken false to from = (λ t a. clash (from a) refl, λ f. tt)
 
 -- k is a precision
 pub is-precision : (k : ℕ) → T (not (not (inRange k))) ↔ IsPrecision k
-is-precision k = (to (inRange k) refl, λ p. rw (range-in k (p .0) (p .1)) tt)
-  where
-    to : (b : Bool) → inRange k ≡ b → T (not (not b)) → IsPrecision k
-    to true e t = in-range k e
-    to false e t = absurd t
+is-precision k = kept (inRange k) (in-range k) (λ p. range-in k (p .0) (p .1))
 
 pub no-precision : (k : ℕ) → T (not (inRange k)) ↔ (IsPrecision k → ⊥)
-no-precision k = (λ t p. T-not (inRange k) t (passes (inRange k) (range-in k (p .0) (p .1))), λ f. not-T (inRange k) (λ t. f (in-range k (passed (inRange k) t))))
+no-precision k = broken (inRange k) (in-range k) (λ p. range-in k (p .0) (p .1))
+
+-- n is a count of fraction bits
+pub is-count : (k n : ℕ) → T (not (not (isFractionCount k n))) ↔ IsFractionCount k n
+is-count k n = kept (isFractionCount k n) (count-in k n) (λ c. in-count k n (c .0) (c .1))
+
+pub no-count : (k n : ℕ) → T (not (isFractionCount k n)) ↔ (IsFractionCount k n → ⊥)
+no-count k n = broken (isFractionCount k n) (count-in k n) (λ c. in-count k n (c .0) (c .1))
+
+-- X is normalised
+pub is-normalised : (n X : ℕ) → T (not (not (isNormalised n X))) ↔ IsNormalised n X
+is-normalised n X = kept (isNormalised n X) (normalised-in n X) (λ o. in-normalised n X (o .0) (o .1))
+
+pub not-normalised : (n X : ℕ) → T (not (isNormalised n X)) ↔ (IsNormalised n X → ⊥)
+not-normalised n X = broken (isNormalised n X) (normalised-in n X) (λ o. in-normalised n X (o .0) (o .1))
 
 -- orders
 pub is-below : (a b : ℕ) → T (ltb a b) ↔ (a < b)

@@ -4,6 +4,7 @@ pub mod Printed
 pub mod Examples
 pub mod Iff
 pub mod Numbers
+pub mod Reciprocals
 pub mod Nodes
 pub mod Built
 pub mod Depends

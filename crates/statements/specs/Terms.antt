@@ -1,8 +1,8 @@
--- The terms in which the theorems speak of a precision k, a buffer s and a node j.
+-- The terms in which the theorems speak of a precision k, a buffer s, a node j and an operand X with n fraction bits.
 -- Assumes nothing.
 use mathlib.Core.Path.{_≡_}
 use mathlib.Core.List.{List}
-use Prim.Native.Nat.{ℕ, _+_, _*_, _%_, _^_, _≤_}
+use Prim.Native.Nat.{ℕ, _+_, _*_, _%_, _^_, _≤_, _<_}
 use lib.ListN.{length}
 use Rattle.precision.specs.Precision.{imageLength}
 use Rattle.nodes.specs.Nodes.{node}
@@ -19,3 +19,11 @@ IsLongEnough k s = imageLength k ≤ length s
 -- the word that a buffer holds for node j is the construction's: c(j) modulo 2^(2k+2)
 abbrev pub IsRightAt : ℕ → List ℕ → ℕ → Type 0
 IsRightAt k s j = wordOf k s j ≡ node k j % 2 ^ (2 * k + 2)
+
+-- n is from 2k + 3 to 63
+abbrev pub IsFractionCount : ℕ → ℕ → Type 0
+IsFractionCount k n = (2 * k + 3 ≤ n) × (n ≤ 63)
+
+-- X is normalised: from 2^n to 2^(n+1) - 1
+abbrev pub IsNormalised : ℕ → ℕ → Type 0
+IsNormalised n X = (2 ^ n ≤ X) × (X < 2 ^ (n + 1))

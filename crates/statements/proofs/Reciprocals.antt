@@ -1,0 +1,153 @@
+-- The answer of the reciprocal: the limits of n and X in front of any list of refusals, the two words that are read, and the whole call.
+-- Assumes nothing.
+use mathlib.Core.Path.{_≡_, _∙_, ap}
+use mathlib.Core.Logic.{_↔_, _⊎_, ⊎-elim}
+use mathlib.Core.Bool.{not}
+use mathlib.Core.List.{List, [], _∷_}
+use Prim.Native.Nat.{ℕ, _+_, _*_, _^_, _≤_, _<_}
+use native.Mathlib.Nat.{le-of-lt}
+use native.Mathlib.Omega.{arith}
+use lib.Dec.{T, eqb}
+use Rattle.answers.specs.Refusal.{Refusal, Outcome, outcome, served}
+use Rattle.answers.proofs.Order.{avoids, first, later, shared, refuses, lets-by}
+use Rattle.nodes.specs.Nodes.{node}
+use Rattle.image.specs.Refusals.{wordRefusal}
+use Rattle.operand.specs.Operand.{cutOperand}
+use Rattle.operand.specs.Refusals.{fractionRefusal, operandRefusal}
+use Rattle.operand.proofs.Laws.{cut-range}
+use Rattle.operand.proofs.Limits.{operand-passes, operand-none}
+use Rattle.interpolation.specs.Algorithm.{nodeNumber, fraction, productSum, chopped, cutReciprocal}
+use Rattle.interpolation.specs.Reciprocal.{nodeOf, readReciprocal, reciprocal}
+use Rattle.interpolation.specs.Calls.{cutRefusals, cutOutcome, reciprocalOutcome}
+use Rattle.statements.specs.Terms.{IsPrecision, IsLongEnough, IsRightAt, IsFractionCount, IsNormalised}
+use Rattle.statements.proofs.Iff.{joined, same, both, under, either, row3, row4, row5, row6, is-count, no-count, is-normalised, not-normalised, wrong-word, no-wrong-word}
+use Rattle.statements.proofs.Nodes.{served-decodes}
+use Rattle.statements.proofs.Numbers.{alone, kept-answer, later-number}
+
+-- the limits of n and X in front of any list of refusals
+module _ (k n X : ℕ) (rs : List Refusal) (v : ℕ) where
+  abbrev behind : Outcome
+  behind = outcome (fractionRefusal k n ∷ operandRefusal n X ∷ rs) v
+
+  pub number-4 : T (avoids 4 (operandRefusal n X ∷ rs)) → (behind .number ≡ 4) ↔ (IsFractionCount k n → ⊥)
+  number-4 t = joined (first (fractionRefusal k n) (operandRefusal n X ∷ rs) v t) (no-count k n)
+
+  pub number-5 : T (avoids 5 rs) → (behind .number ≡ 5) ↔ (IsFractionCount k n × (IsNormalised n X → ⊥))
+  number-5 t =
+      joined (later 5 (fractionRefusal k n) (operandRefusal n X ∷ rs) v tt)
+      (both (is-count k n) (joined (first (operandRefusal n X) rs v t) (not-normalised n X)))
+
+  later-operand : (m : ℕ) → T (not (eqb 4 m)) → T (not (eqb 5 m)) → (behind .number ≡ m) ↔ (IsFractionCount k n × (IsNormalised n X × (outcome rs v .number ≡ m)))
+  later-operand m a b =
+      joined (later m (fractionRefusal k n) (operandRefusal n X ∷ rs) v a)
+      (both (is-count k n) (joined (later m (operandRefusal n X) rs v b) (both (is-normalised n X) same)))
+
+  kept-operand : IsFractionCount k n → IsNormalised n X → behind ≡ outcome rs v
+  kept-operand c o =
+      operand-passes k n X rs v (operand-none k n X (record { enough = c .0; most = c .1; least = o .0; below = o .1 }))
+
+-- the words of node j, which has one, and of node j + 1, which may have none
+module _ (k : ℕ) (s : List ℕ) (j v : ℕ) (h : j < 2 ^ k) where
+  abbrev words : List Refusal
+  words = wordRefusal k s j ∷ wordRefusal k s (j + 1) ∷ []
+
+  words-6 : (outcome words v .number ≡ 6) ↔ ((IsRightAt k s j → ⊥) ⊎ ((j + 1 < 2 ^ k) × (IsRightAt k s (j + 1) → ⊥)))
+  words-6 =
+      joined (shared (wordRefusal k s j) (wordRefusal k s (j + 1) ∷ []) v)
+      (either (joined (wrong-word k s j) (λ t. t .1, λ f. (h, f))) (joined (first (wordRefusal k s (j + 1)) [] v tt) (wrong-word k s (j + 1))))
+
+  words-0 : (outcome words v .number ≡ 0) ↔ (IsRightAt k s j × (j + 1 < 2 ^ k → IsRightAt k s (j + 1)))
+  words-0 =
+      joined (later 0 (wordRefusal k s j) (wordRefusal k s (j + 1) ∷ []) v tt)
+      (both (joined (no-wrong-word k s j) (λ f. f h, λ r m. r))
+      (joined (later 0 (wordRefusal k s (j + 1)) [] v tt) (joined alone (no-wrong-word k s (j + 1)))))
+
+  -- the whole answer: the lower wrong one of the two is named
+  words-lower : (IsRightAt k s j → ⊥) → outcome words v ≡ record { number = 6; place = j; value = 0 }
+  words-lower f = refuses (wordRefusal k s j) (wordRefusal k s (j + 1) ∷ []) v (wrong-word k s j .1 (h, f))
+
+  words-upper : IsRightAt k s j → j + 1 < 2 ^ k → (IsRightAt k s (j + 1) → ⊥) → outcome words v ≡ record { number = 6; place = j + 1; value = 0 }
+  words-upper r m f =
+      lets-by (wordRefusal k s j) (wordRefusal k s (j + 1) ∷ []) v (no-wrong-word k s j .1 (λ l. r))
+      ∙ refuses (wordRefusal k s (j + 1)) [] v (wrong-word k s (j + 1) .1 (m, f))
+
+  words-right : IsRightAt k s j → (j + 1 < 2 ^ k → IsRightAt k s (j + 1)) → outcome words v ≡ served v
+  words-right r q =
+      lets-by (wordRefusal k s j) (wordRefusal k s (j + 1) ∷ []) v (no-wrong-word k s j .1 (λ l. r))
+      ∙ lets-by (wordRefusal k s (j + 1)) [] v (no-wrong-word k s (j + 1) .1 q)
+
+-- right words give R
+read-right : (k : ℕ) (s : List ℕ) (t : ℕ) → nodeNumber k t < 2 ^ k → IsRightAt k s (nodeNumber k t) → (nodeNumber k t + 1 < 2 ^ k → IsRightAt k s (nodeNumber k t + 1)) → readReciprocal k s t ≡ cutReciprocal k t
+read-right k s t h r q =
+    ap (λ (c : ℕ). chopped k (productSum k c (nodeOf k s (nodeNumber k t + 1)) (fraction k t))) (served-decodes k s (nodeNumber k t) (le-of-lt h) (λ l. r))
+    ∙ ap (λ (c : ℕ). chopped k (productSum k (node k (nodeNumber k t)) c (fraction k t))) (served-decodes k s (nodeNumber k t + 1) (omega (arith, h)) q)
+
+-- the whole call
+module _ (k n X : ℕ) where
+  abbrev j : ℕ
+  j = nodeNumber k (cutOperand k n X)
+
+  -- an operand in range leads to a node that has a word
+  pub has-word : IsFractionCount k n → IsNormalised n X → j < 2 ^ k
+  has-word c o = ?
+
+  module _ (s : List ℕ) where
+    abbrev v : ℕ
+    v = readReciprocal k s (cutOperand k n X)
+
+    abbrev words-read : List Refusal
+    words-read = cutRefusals k s (cutOperand k n X)
+
+    abbrev behind-limits : List Refusal
+    behind-limits = fractionRefusal k n ∷ operandRefusal n X ∷ words-read
+
+    pub reciprocal-4 : (reciprocalOutcome k s n X .number ≡ 4) ↔ (IsPrecision k × IsLongEnough k s × (IsFractionCount k n → ⊥))
+    reciprocal-4 = joined (later-number k s behind-limits v 4 tt tt) (joined (both same (both same (number-4 k n X words-read v tt))) row3)
+
+    pub reciprocal-5 : (reciprocalOutcome k s n X .number ≡ 5) ↔ (IsPrecision k × IsLongEnough k s × IsFractionCount k n × (IsNormalised n X → ⊥))
+    reciprocal-5 = joined (later-number k s behind-limits v 5 tt tt) (joined (both same (both same (number-5 k n X words-read v tt))) row4)
+
+    pub reciprocal-6 : (reciprocalOutcome k s n X .number ≡ 6)
+        ↔ (IsPrecision k × IsLongEnough k s × IsFractionCount k n × IsNormalised n X × ((IsRightAt k s j → ⊥) ⊎ ((j + 1 < 2 ^ k) × (IsRightAt k s (j + 1) → ⊥))))
+    reciprocal-6 =
+        joined (later-number k s behind-limits v 6 tt tt)
+        (joined (both same (both same (joined (later-operand k n X words-read v 6 tt tt) (under (λ c. under (λ o. words-6 k s j v (has-word c o))))))) row5)
+
+    pub reciprocal-0 : (reciprocalOutcome k s n X .number ≡ 0)
+        ↔ (IsPrecision k × IsLongEnough k s × IsFractionCount k n × IsNormalised n X × IsRightAt k s j × (j + 1 < 2 ^ k → IsRightAt k s (j + 1)))
+    reciprocal-0 =
+        joined (later-number k s behind-limits v 0 tt tt)
+        (joined (both same (both same (joined (later-operand k n X words-read v 0 tt tt) (under (λ c. under (λ o. words-0 k s j v (has-word c o))))))) row6)
+
+    -- the whole answer with all limits kept: by the words of j and j + 1
+    module _ (p : IsPrecision k) (l : IsLongEnough k s) (c : IsFractionCount k n) (o : IsNormalised n X) where
+      kept-cut : reciprocalOutcome k s n X ≡ cutOutcome k s (cutOperand k n X)
+      kept-cut = kept-answer k s behind-limits v p l ∙ kept-operand k n X words-read v c o
+
+      pub lower-named : (IsRightAt k s j → ⊥) → reciprocalOutcome k s n X ≡ record { number = 6; place = j; value = 0 }
+      lower-named f = kept-cut ∙ words-lower k s j v (has-word c o) f
+
+      pub upper-named : IsRightAt k s j → j + 1 < 2 ^ k → (IsRightAt k s (j + 1) → ⊥) → reciprocalOutcome k s n X ≡ record { number = 6; place = j + 1; value = 0 }
+      upper-named r m f = kept-cut ∙ words-upper k s j v (has-word c o) r m f
+
+      pub gives : IsRightAt k s j → (j + 1 < 2 ^ k → IsRightAt k s (j + 1)) → reciprocalOutcome k s n X ≡ served (reciprocal k n X)
+      gives r q = kept-cut ∙ words-right k s j v (has-word c o) r q ∙ ap served (read-right k s (cutOperand k n X) (has-word c o) r q)
+
+    -- the place under 6
+    pub lower-place : reciprocalOutcome k s n X .number ≡ 6 → (IsRightAt k s j → ⊥) → reciprocalOutcome k s n X .place ≡ j
+    lower-place e f =
+        let t = reciprocal-6 .0 e in
+        ap (λ (a : Outcome). a .place) (lower-named (t .0) (t .1) (t .2) (t .3) f)
+
+    pub upper-place : reciprocalOutcome k s n X .number ≡ 6 → IsRightAt k s j → reciprocalOutcome k s n X .place ≡ j + 1
+    upper-place e r =
+        let t = reciprocal-6 .0 e in
+        ⊎-elim (λ f. absurd (f r))
+        (λ u. ap (λ (a : Outcome). a .place) (upper-named (t .0) (t .1) (t .2) (t .3) r (u .0) (u .1)))
+        (t .4)
+
+    -- what is given is R
+    pub given-right : reciprocalOutcome k s n X .number ≡ 0 → reciprocalOutcome k s n X .value ≡ reciprocal k n X
+    given-right e =
+        let t = reciprocal-0 .0 e in
+        ap (λ (a : Outcome). a .value) (gives (t .0) (t .1) (t .2) (t .3) (t .4) (t .5))
