@@ -2,10 +2,10 @@
 -- empty part), and every lent byte is left as found. Whatever breaks none is served."
 --
 -- For each call: its number is r exactly when refusal r applies and no earlier one does, and 0 exactly when none does; a call that is
--- turned back has the value 0, and place 0 but under 6; a served one has place 0. Nothing is assumed of k, of the buffer s or of j, but for
--- the bytes of a word that is shown. Only the builder is lent a buffer that it can write to: the others leave every byte by their types.
+-- turned back has the value 0, and place 0 but under 6; a served one has place 0. Nothing is assumed of k, of the buffer s, of j, n or X, but
+-- for the bytes of a word that is shown. Only the builder is lent a buffer that it can write to: the others leave every byte by their types.
 use mathlib.Core.Path.{_≡_, _∙_}
-use mathlib.Core.Logic.{_↔_}
+use mathlib.Core.Logic.{_↔_, _⊎_}
 use mathlib.Core.List.{List, [], _∷_}
 use Prim.Native.Nat.{ℕ, _+_, _-_, _*_, _/_, _^_, _≤_, _<_}
 use lib.Dec.{T}
@@ -16,11 +16,16 @@ use Rattle.answers.proofs.Order.{isOneOf, listed, avoided, first, later, placed
 use Rattle.image.specs.Image.{wordOf}
 use Rattle.image.specs.Refusals.{nodeRefusal, imageRefusal, wordRefusal}
 use Rattle.image.specs.Calls.{buildRefusals, buildOutcome, buildLeaves, checkRefusals, checkOutcome, nodeRefusals, nodeOutcome, shownPart}
-use Rattle.statements.specs.Terms.{IsPrecision, IsLongEnough, IsRightAt}
+use Rattle.operand.specs.Operand.{cutOperand}
+use Rattle.interpolation.specs.Algorithm.{nodeNumber}
+use Rattle.interpolation.specs.Reciprocal.{readReciprocal}
+use Rattle.interpolation.specs.Calls.{reciprocalRefusals, reciprocalOutcome}
+use Rattle.statements.specs.Terms.{IsPrecision, IsLongEnough, IsRightAt, IsFractionCount, IsNormalised}
 use Rattle.statements.proofs.Iff.{joined, both, row3, row4, same, some-wrong, none-wrong}
 use Rattle.statements.proofs.Built.{left-as-found, built-rest, built-as-long}
 use Rattle.statements.proofs.Nodes.{served-decodes}
 use Rattle.statements.proofs.Numbers.{alone, refuses-1, refuses-2, later-number, first-wrong, node-number-3, node-number-6, node-number-0, node-place}
+use Rattle.statements.proofs.Reciprocals
 use Rattle.statements.proofs.Parts.{shown-empty, shown-length, shown-bytes}
 
 -- The builder.
@@ -133,6 +138,55 @@ module _ (k : ℕ) (s : List ℕ) (j : ℕ) where
   node-served-value e =
       let t = node-serves .0 e in
       served-value (nodeRefusals k s j) (decode k j (wordOf k s j)) tt e .1 ∙ served-decodes k s j (t .2) (t .3)
+
+-- The reciprocal of X with n fraction bits.
+module _ (k : ℕ) (s : List ℕ) (n X : ℕ) where
+  -- the words that are read are those of node j and, where it has one, of node j + 1
+  abbrev j : ℕ
+  j = nodeNumber k (cutOperand k n X)
+
+  pub reciprocal-refuses-1 : (reciprocalOutcome k s n X .number ≡ 1) ↔ (IsPrecision k → ⊥)
+  reciprocal-refuses-1 = Reciprocals.reciprocal-1 k n X s
+
+  pub reciprocal-refuses-2 : (reciprocalOutcome k s n X .number ≡ 2) ↔ (IsPrecision k × (length s < imageLength k))
+  reciprocal-refuses-2 = Reciprocals.reciprocal-2 k n X s
+
+  -- 4: n is below 2k + 3 or above 63
+  pub reciprocal-refuses-4 : (reciprocalOutcome k s n X .number ≡ 4) ↔ (IsPrecision k × IsLongEnough k s × (IsFractionCount k n → ⊥))
+  reciprocal-refuses-4 = Reciprocals.reciprocal-4 k n X s
+
+  -- 5: X is not from 2^n to 2^(n+1) - 1
+  pub reciprocal-refuses-5 : (reciprocalOutcome k s n X .number ≡ 5) ↔ (IsPrecision k × IsLongEnough k s × IsFractionCount k n × (IsNormalised n X → ⊥))
+  reciprocal-refuses-5 = Reciprocals.reciprocal-5 k n X s
+
+  -- 6: one of the words that are read is not the construction's; where j + 1 is 2^k only the word of j is read
+  pub reciprocal-refuses-6 : (reciprocalOutcome k s n X .number ≡ 6)
+      ↔ (IsPrecision k × IsLongEnough k s × IsFractionCount k n × IsNormalised n X × ((IsRightAt k s j → ⊥) ⊎ ((j + 1 < 2 ^ k) × (IsRightAt k s (j + 1) → ⊥))))
+  reciprocal-refuses-6 = Reciprocals.reciprocal-6 k n X s
+
+  pub reciprocal-serves : (reciprocalOutcome k s n X .number ≡ 0)
+      ↔ (IsPrecision k × IsLongEnough k s × IsFractionCount k n × IsNormalised n X × IsRightAt k s j × (j + 1 < 2 ^ k → IsRightAt k s (j + 1)))
+  reciprocal-serves = Reciprocals.reciprocal-0 k n X s
+
+  pub reciprocal-numbers : T (isOneOf (reciprocalOutcome k s n X .number) (0 ∷ 1 ∷ 2 ∷ 4 ∷ 5 ∷ 6 ∷ []))
+  reciprocal-numbers = listed (0 ∷ 1 ∷ 2 ∷ 4 ∷ 5 ∷ 6 ∷ []) (reciprocalRefusals k s n X) (readReciprocal k s (cutOperand k n X)) tt tt
+
+  -- the place is 0 but under 6, and there it is the lowest node whose word is read and wrong: j, or j + 1 where the word of j is right
+  pub reciprocal-place-0 : (reciprocalOutcome k s n X .number ≡ 6 → ⊥) → reciprocalOutcome k s n X .place ≡ 0
+  reciprocal-place-0 = placed 6 (reciprocalRefusals k s n X) (readReciprocal k s (cutOperand k n X)) tt
+
+  pub reciprocal-place-lower : reciprocalOutcome k s n X .number ≡ 6 → (IsRightAt k s j → ⊥) → reciprocalOutcome k s n X .place ≡ j
+  reciprocal-place-lower = Reciprocals.lower-place k n X s
+
+  pub reciprocal-place-upper : reciprocalOutcome k s n X .number ≡ 6 → IsRightAt k s j → reciprocalOutcome k s n X .place ≡ j + 1
+  reciprocal-place-upper = Reciprocals.upper-place k n X s
+
+  -- a refusal has the value 0; what is given otherwise is in Demand3
+  pub reciprocal-refused-value : (reciprocalOutcome k s n X .number ≡ 0 → ⊥) → reciprocalOutcome k s n X .value ≡ 0
+  reciprocal-refused-value = refused-value (reciprocalRefusals k s n X) (readReciprocal k s (cutOperand k n X))
+
+  pub reciprocal-served-place : reciprocalOutcome k s n X .number ≡ 0 → reciprocalOutcome k s n X .place ≡ 0
+  reciprocal-served-place e = served-value (reciprocalRefusals k s n X) (readReciprocal k s (cutOperand k n X)) tt e .0
 
 -- Showing the bytes of one word. That call has no numbers.
 module _ (k : ℕ) (s : List ℕ) (j : ℕ) where

@@ -8,8 +8,10 @@ use Prim.Native.Nat.{ℕ, _+_, _*_, _^_, _≤_, _<_}
 use native.Mathlib.Nat.{le-of-lt}
 use native.Mathlib.Omega.{arith}
 use lib.Dec.{T, eqb}
+use lib.ListN.{length}
 use Rattle.answers.specs.Refusal.{Refusal, Outcome, outcome, served}
 use Rattle.answers.proofs.Order.{avoids, first, later, shared, refuses, lets-by}
+use Rattle.precision.specs.Precision.{imageLength}
 use Rattle.nodes.specs.Nodes.{node}
 use Rattle.image.specs.Refusals.{wordRefusal}
 use Rattle.operand.specs.Operand.{cutOperand}
@@ -19,10 +21,11 @@ use Rattle.operand.proofs.Limits.{operand-passes, operand-none}
 use Rattle.interpolation.specs.Algorithm.{nodeNumber, fraction, productSum, chopped, cutReciprocal}
 use Rattle.interpolation.specs.Reciprocal.{nodeOf, readReciprocal, reciprocal}
 use Rattle.interpolation.specs.Calls.{cutRefusals, cutOutcome, reciprocalOutcome}
+use Rattle.interpolation.proofs.Cut.{cut-number-below}
 use Rattle.statements.specs.Terms.{IsPrecision, IsLongEnough, IsRightAt, IsFractionCount, IsNormalised}
 use Rattle.statements.proofs.Iff.{joined, same, both, under, either, row3, row4, row5, row6, is-count, no-count, is-normalised, not-normalised, wrong-word, no-wrong-word}
 use Rattle.statements.proofs.Nodes.{served-decodes}
-use Rattle.statements.proofs.Numbers.{alone, kept-answer, later-number}
+use Rattle.statements.proofs.Numbers.{alone, refuses-1, refuses-2, kept-answer, later-number}
 
 -- the limits of n and X in front of any list of refusals
 module _ (k n X : ℕ) (rs : List Refusal) (v : ℕ) where
@@ -87,9 +90,15 @@ module _ (k n X : ℕ) where
   abbrev j : ℕ
   j = nodeNumber k (cutOperand k n X)
 
-  -- an operand in range leads to a node that has a word
-  pub has-word : IsFractionCount k n → IsNormalised n X → j < 2 ^ k
-  has-word c o = ?
+  -- the cut of a normalised operand is normalised
+  pub cut-in-range : 2 * k + 3 ≤ n → IsNormalised n X → (2 ^ (2 * k + 3) ≤ cutOperand k n X) × (cutOperand k n X < 2 ^ (2 * k + 4))
+  cut-in-range e o =
+      let one-more : 2 * k + 3 + 1 ≡ 2 * k + 4 = omega arith in
+      rw one-more at (cut-range (2 * k + 3) n e X (o .0) (o .1))
+
+  -- so it leads to a node that has a word
+  pub has-word : 2 * k + 3 ≤ n → IsNormalised n X → j < 2 ^ k
+  has-word e o = let r = cut-in-range e o in cut-number-below k (cutOperand k n X) (r .0) (r .1)
 
   module _ (s : List ℕ) where
     abbrev v : ℕ
@@ -101,6 +110,13 @@ module _ (k n X : ℕ) where
     abbrev behind-limits : List Refusal
     behind-limits = fractionRefusal k n ∷ operandRefusal n X ∷ words-read
 
+    -- the numbers
+    pub reciprocal-1 : (reciprocalOutcome k s n X .number ≡ 1) ↔ (IsPrecision k → ⊥)
+    reciprocal-1 = refuses-1 k s behind-limits v tt
+
+    pub reciprocal-2 : (reciprocalOutcome k s n X .number ≡ 2) ↔ (IsPrecision k × (length s < imageLength k))
+    reciprocal-2 = refuses-2 k s behind-limits v tt
+
     pub reciprocal-4 : (reciprocalOutcome k s n X .number ≡ 4) ↔ (IsPrecision k × IsLongEnough k s × (IsFractionCount k n → ⊥))
     reciprocal-4 = joined (later-number k s behind-limits v 4 tt tt) (joined (both same (both same (number-4 k n X words-read v tt))) row3)
 
@@ -111,13 +127,13 @@ module _ (k n X : ℕ) where
         ↔ (IsPrecision k × IsLongEnough k s × IsFractionCount k n × IsNormalised n X × ((IsRightAt k s j → ⊥) ⊎ ((j + 1 < 2 ^ k) × (IsRightAt k s (j + 1) → ⊥))))
     reciprocal-6 =
         joined (later-number k s behind-limits v 6 tt tt)
-        (joined (both same (both same (joined (later-operand k n X words-read v 6 tt tt) (under (λ c. under (λ o. words-6 k s j v (has-word c o))))))) row5)
+        (joined (both same (both same (joined (later-operand k n X words-read v 6 tt tt) (under (λ c. under (λ o. words-6 k s j v (has-word (c .0) o))))))) row5)
 
     pub reciprocal-0 : (reciprocalOutcome k s n X .number ≡ 0)
         ↔ (IsPrecision k × IsLongEnough k s × IsFractionCount k n × IsNormalised n X × IsRightAt k s j × (j + 1 < 2 ^ k → IsRightAt k s (j + 1)))
     reciprocal-0 =
         joined (later-number k s behind-limits v 0 tt tt)
-        (joined (both same (both same (joined (later-operand k n X words-read v 0 tt tt) (under (λ c. under (λ o. words-0 k s j v (has-word c o))))))) row6)
+        (joined (both same (both same (joined (later-operand k n X words-read v 0 tt tt) (under (λ c. under (λ o. words-0 k s j v (has-word (c .0) o))))))) row6)
 
     -- the whole answer with all limits kept: by the words of j and j + 1
     module _ (p : IsPrecision k) (l : IsLongEnough k s) (c : IsFractionCount k n) (o : IsNormalised n X) where
@@ -125,13 +141,13 @@ module _ (k n X : ℕ) where
       kept-cut = kept-answer k s behind-limits v p l ∙ kept-operand k n X words-read v c o
 
       pub lower-named : (IsRightAt k s j → ⊥) → reciprocalOutcome k s n X ≡ record { number = 6; place = j; value = 0 }
-      lower-named f = kept-cut ∙ words-lower k s j v (has-word c o) f
+      lower-named f = kept-cut ∙ words-lower k s j v (has-word (c .0) o) f
 
       pub upper-named : IsRightAt k s j → j + 1 < 2 ^ k → (IsRightAt k s (j + 1) → ⊥) → reciprocalOutcome k s n X ≡ record { number = 6; place = j + 1; value = 0 }
-      upper-named r m f = kept-cut ∙ words-upper k s j v (has-word c o) r m f
+      upper-named r m f = kept-cut ∙ words-upper k s j v (has-word (c .0) o) r m f
 
       pub gives : IsRightAt k s j → (j + 1 < 2 ^ k → IsRightAt k s (j + 1)) → reciprocalOutcome k s n X ≡ served (reciprocal k n X)
-      gives r q = kept-cut ∙ words-right k s j v (has-word c o) r q ∙ ap served (read-right k s (cutOperand k n X) (has-word c o) r q)
+      gives r q = kept-cut ∙ words-right k s j v (has-word (c .0) o) r q ∙ ap served (read-right k s (cutOperand k n X) (has-word (c .0) o) r q)
 
     -- the place under 6
     pub lower-place : reciprocalOutcome k s n X .number ≡ 6 → (IsRightAt k s j → ⊥) → reciprocalOutcome k s n X .place ≡ j
