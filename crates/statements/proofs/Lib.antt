@@ -1,10 +1,13 @@
 pub mod Demand1
 pub mod Demand2
+pub mod Demand3
 pub mod Printed
 pub mod Examples
 pub mod Iff
 pub mod Numbers
 pub mod Reciprocals
+pub mod Longer
+pub mod Sizes
 pub mod Nodes
 pub mod Built
 pub mod Depends

@@ -21,7 +21,7 @@ use Rattle.operand.proofs.Limits.{operand-passes, operand-none}
 use Rattle.interpolation.specs.Algorithm.{nodeNumber, fraction, productSum, chopped, cutReciprocal}
 use Rattle.interpolation.specs.Reciprocal.{nodeOf, readReciprocal, reciprocal}
 use Rattle.interpolation.specs.Calls.{cutRefusals, cutOutcome, reciprocalOutcome}
-use Rattle.interpolation.proofs.Cut.{cut-number-below}
+use Rattle.interpolation.proofs.Cut.{cut-number-below, cut-reciprocal-least, cut-reciprocal-most}
 use Rattle.statements.specs.Terms.{IsPrecision, IsLongEnough, IsRightAt, IsFractionCount, IsNormalised}
 use Rattle.statements.proofs.Iff.{joined, same, both, under, either, row3, row4, row5, row6, is-count, no-count, is-normalised, not-normalised, wrong-word, no-wrong-word}
 use Rattle.statements.proofs.Nodes.{served-decodes}
@@ -100,6 +100,13 @@ module _ (k n X : ℕ) where
   pub has-word : 2 * k + 3 ≤ n → IsNormalised n X → j < 2 ^ k
   has-word e o = let r = cut-in-range e o in cut-number-below k (cutOperand k n X) (r .0) (r .1)
 
+  -- R runs from 2^(2k) to 2^(2k+1)
+  pub from : 2 * k + 3 ≤ n → IsNormalised n X → 2 ^ (2 * k) ≤ reciprocal k n X
+  from e o = let r = cut-in-range e o in cut-reciprocal-least k (cutOperand k n X) (r .0) (r .1)
+
+  pub to : 2 * k + 3 ≤ n → IsNormalised n X → reciprocal k n X ≤ 2 ^ (2 * k + 1)
+  to e o = let r = cut-in-range e o in cut-reciprocal-most k (cutOperand k n X) (r .0) (r .1)
+
   module _ (s : List ℕ) where
     abbrev v : ℕ
     v = readReciprocal k s (cutOperand k n X)
@@ -167,3 +174,7 @@ module _ (k n X : ℕ) where
     given-right e =
         let t = reciprocal-0 .0 e in
         ap (λ (a : Outcome). a .value) (gives (t .0) (t .1) (t .2) (t .3) (t .4) (t .5))
+
+    -- and has what R has for every operand in range
+    pub given-has : reciprocalOutcome k s n X .number ≡ 0 → (P : ℕ → Type 0) → (2 * k + 3 ≤ n → 2 ^ n ≤ X → X < 2 ^ (n + 1) → P (reciprocal k n X)) → P (reciprocalOutcome k s n X .value)
+    given-has e P holds = let t = reciprocal-0 .0 e in rw (given-right e) (holds (t .2 .0) (t .3 .0) (t .3 .1))

@@ -1,0 +1,78 @@
+-- Demand 3. "For every k from 1 to 12, n from 2k + 3 to 63 and X from 2^n to 2^(n+1) - 1, R × X differs from 2^(n+2k+1) by less than X.
+-- A reciprocal that is given is this R, whatever bytes the image holds. Bits written to the right of X, up to 63 in all, change neither R nor
+-- the answer: same number, place and value from the same image."
+--
+-- `reciprocal k n X` is R (Demand2 has its steps), and `reciprocalOutcome k s n X` is the answer of the call. What is said of R alone holds
+-- for every k and every n from 2k + 3 on: 12 and 63 are limits of the call.
+use mathlib.Core.Path.{_≡_}
+use mathlib.Core.List.{List}
+use Prim.Native.Nat.{ℕ, _+_, _-_, _*_, _^_, _≤_, _<_}
+use Rattle.nodes.specs.Nodes.{node}
+use Rattle.interpolation.specs.Algorithm.{nodeNumber, fraction, cutProductSum}
+use Rattle.interpolation.specs.Reciprocal.{reciprocal}
+use Rattle.interpolation.specs.Calls.{reciprocalOutcome}
+use Rattle.interpolation.proofs.Bound.{reciprocal-low, reciprocal-high}
+use Rattle.statements.specs.Terms.{IsPrecision}
+use Rattle.statements.proofs.Longer
+use Rattle.statements.proofs.Reciprocals
+use Rattle.statements.proofs.Sizes
+
+-- The bound: R × X differs from 2^(n+2k+1) by less than X.
+module _ (k n X : ℕ) (enough : 2 * k + 3 ≤ n) (least : 2 ^ n ≤ X) (below : X < 2 ^ (n + 1)) where
+  pub bound-low : 2 ^ (n + 2 * k + 1) < reciprocal k n X * X + X
+  bound-low = reciprocal-low k n X enough least below
+
+  pub bound-high : reciprocal k n X * X < 2 ^ (n + 2 * k + 1) + X
+  bound-high = reciprocal-high k n X enough least below
+
+-- Given means right: nothing is assumed of the image s, nor of k, n and X, but that a reciprocal is given.
+module _ (k : ℕ) (s : List ℕ) (n X : ℕ) (given : reciprocalOutcome k s n X .number ≡ 0) where
+  pub given-is-R : reciprocalOutcome k s n X .value ≡ reciprocal k n X
+  given-is-R = Reciprocals.given-right k n X s given
+
+  -- and the bound holds of it
+  pub given-low : 2 ^ (n + 2 * k + 1) < reciprocalOutcome k s n X .value * X + X
+  given-low = Reciprocals.given-has k n X s given (λ R. 2 ^ (n + 2 * k + 1) < R * X + X) (bound-low k n X)
+
+  pub given-high : reciprocalOutcome k s n X .value * X < 2 ^ (n + 2 * k + 1) + X
+  given-high = Reciprocals.given-has k n X s given (λ R. R * X < 2 ^ (n + 2 * k + 1) + X) (bound-high k n X)
+
+-- Bits to the right: m bits b written to the right of any X, normalised or not.
+module _ (k n m X b : ℕ) (enough : 2 * k + 3 ≤ n) (bits : b < 2 ^ m) where
+  -- they do not change R
+  pub longer-reciprocal : reciprocal k (n + m) (X * 2 ^ m + b) ≡ reciprocal k n X
+  longer-reciprocal = Longer.reciprocal-same k n m X b enough bits
+
+  -- nor, up to 63 in all, the answer: number, place and value from the same image, whatever it holds and however long it is
+  pub longer-answer : n + m ≤ 63 → (s : List ℕ) → reciprocalOutcome k s (n + m) (X * 2 ^ m + b) ≡ reciprocalOutcome k s n X
+  longer-answer = Longer.outcome-same k n m X b enough bits
+
+-- R runs from 2^(2k) to 2^(2k+1).
+module _ (k n X : ℕ) (enough : 2 * k + 3 ≤ n) (least : 2 ^ n ≤ X) (below : X < 2 ^ (n + 1)) where
+  pub reciprocal-from : 2 ^ (2 * k) ≤ reciprocal k n X
+  reciprocal-from = Reciprocals.from k n X enough (least, below)
+
+  pub reciprocal-to : reciprocal k n X ≤ 2 ^ (2 * k + 1)
+  reciprocal-to = Reciprocals.to k n X enough (least, below)
+
+-- The difference of two neighbouring nodes and f are each below 2^(k+3) (document 002, Lemma 1), at every node and at every t,
+pub node-difference : (k j : ℕ) → node k j - node k (j + 1) < 2 ^ (k + 3)
+node-difference = Sizes.step-small
+
+pub fraction-below : (k t : ℕ) → fraction k t < 2 ^ (k + 3)
+fraction-below = Sizes.fraction-small
+
+-- so a multiplier of k + 3 bits by k + 3 bits suffices,
+pub product-below : (k t : ℕ) → (node k (nodeNumber k t) - node k (nodeNumber k t + 1)) * fraction k t < 2 ^ (2 * k + 6)
+product-below = Sizes.second-product
+
+-- and P and both its products fit 64 bits.
+module _ (k t : ℕ) (p : IsPrecision k) where
+  pub first-product-fits : node k (nodeNumber k t) * 2 ^ (k + 3) < 2 ^ 64
+  first-product-fits = Sizes.first-fits k t p
+
+  pub second-product-fits : (node k (nodeNumber k t) - node k (nodeNumber k t + 1)) * fraction k t < 2 ^ 64
+  second-product-fits = Sizes.second-fits k t p
+
+  pub product-sum-fits : cutProductSum k t < 2 ^ 64
+  product-sum-fits = Sizes.sum-fits k t p

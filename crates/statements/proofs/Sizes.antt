@@ -1,0 +1,52 @@
+-- How large the numbers of Algorithm 2 are, for every k and t, and that they fit 64 bits where k is a precision.
+-- Assumes nothing.
+use mathlib.Core.Path.{_≡_, sym, ap, _∙_}
+use Prim.Native.Nat.{ℕ, _+_, _-_, _*_, _^_, _≤_, _<_}
+use native.Mathlib.Nat.{sub-le, le-trans, lt-of-le-of-lt, lt-trans, mod-lt, mul-le-mul, mul-le-mul-right}
+use native.Mathlib.Omega.{arith}
+use lib.Pow.{pow-add, pow-pos, pow-lt}
+use Rattle.nodes.specs.Nodes.{node}
+use Rattle.nodes.proofs.Nodes.{node-first, node-ordered, node-near}
+use Rattle.interpolation.specs.Algorithm.{nodeNumber, fraction, cutProductSum}
+use Rattle.statements.specs.Terms.{IsPrecision}
+
+-- both factors of the product with the fraction
+pub step-small : (k j : ℕ) → node k j - node k (j + 1) < 2 ^ (k + 3)
+step-small k j = omega (arith, node-near k j, pow-pos (k + 3))
+
+pub fraction-small : (k t : ℕ) → fraction k t < 2 ^ (k + 3)
+fraction-small k t = mod-lt t (pow-pos (k + 3))
+
+-- a product of powers
+joined : (a b e : ℕ) → a + b ≡ e → 2 ^ a * 2 ^ b ≡ 2 ^ e
+joined a b e h = sym (pow-add 2 a b) ∙ ap (λ (x : ℕ). 2 ^ x) h
+
+-- a product of two numbers below F
+below-square : {a b F : ℕ} → a < F → b < F → a * b < F * F
+below-square h l = omega (arith, mul-le-mul h l)
+
+module _ (k t : ℕ) where
+  first-product : node k (nodeNumber k t) * 2 ^ (k + 3) ≤ 2 ^ (3 * k + 6)
+  first-product =
+      let c : node k (nodeNumber k t) ≤ 2 ^ (2 * k + 3) = omega (arith, node-first k, node-ordered k {i = 0} {j = nodeNumber k t} (omega arith)) in
+      omega (arith, mul-le-mul-right (2 ^ (k + 3)) c, joined (2 * k + 3) (k + 3) (3 * k + 6) (omega arith))
+
+  pub second-product : (node k (nodeNumber k t) - node k (nodeNumber k t + 1)) * fraction k t < 2 ^ (2 * k + 6)
+  second-product =
+      rw (joined (k + 3) (k + 3) (2 * k + 6) (omega arith)) at (below-square (step-small k (nodeNumber k t)) (fraction-small k t))
+
+  sum-small : cutProductSum k t ≤ 2 ^ (3 * k + 6)
+  sum-small = le-trans (sub-le (node k (nodeNumber k t) * 2 ^ (k + 3)) ((node k (nodeNumber k t) - node k (nodeNumber k t + 1)) * fraction k t)) first-product
+
+  module _ (p : IsPrecision k) where
+    few : 3 * k + 6 < 64
+    few = omega (arith, p .1)
+
+    pub first-fits : node k (nodeNumber k t) * 2 ^ (k + 3) < 2 ^ 64
+    first-fits = lt-of-le-of-lt first-product (pow-lt few)
+
+    pub second-fits : (node k (nodeNumber k t) - node k (nodeNumber k t + 1)) * fraction k t < 2 ^ 64
+    second-fits = let fewer : 2 * k + 6 < 64 = omega (arith, few) in lt-trans second-product (pow-lt fewer)
+
+    pub sum-fits : cutProductSum k t < 2 ^ 64
+    sum-fits = lt-of-le-of-lt sum-small (pow-lt few)
