@@ -5,3 +5,4 @@ pub mod Plain
 pub mod Powers
 pub mod Bound
 pub mod Cut
+pub mod Answers
