@@ -65,21 +65,6 @@ shared-of false x y n e = (λ h. inr h, λ u. ⊎-elim (λ t. absurd t) (λ h. h
 pub shared : (r : Refusal) (rs : List Refusal) (v : ℕ) → (outcome (r ∷ rs) v .number ≡ r .number) ↔ (T (r .applies) ⊎ (outcome rs v .number ≡ r .number))
 shared r rs v = shared-of (r .applies) (turnedBack r) (outcome rs v) (r .number) refl
 
-turned-of : (b : Bool) (x y : Outcome) → T b → cond b x y ≡ x
-turned-of true x y t = refl
-turned-of false x y t = absurd t
-
-kept-of : (b : Bool) (x y : Outcome) → T (not b) → cond b x y ≡ y
-kept-of true x y t = absurd t
-kept-of false x y t = refl
-
--- the whole answer, by whether the first refusal applies
-pub refuses : (r : Refusal) (rs : List Refusal) (v : ℕ) → T (r .applies) → outcome (r ∷ rs) v ≡ turnedBack r
-refuses r rs v = turned-of (r .applies) (turnedBack r) (outcome rs v)
-
-pub lets-by : (r : Refusal) (rs : List Refusal) (v : ℕ) → T (not (r .applies)) → outcome (r ∷ rs) v ≡ outcome rs v
-lets-by r rs v = kept-of (r .applies) (turnedBack r) (outcome rs v)
-
 -- n is one of the list
 abbrev pub isOneOf : ℕ → List ℕ → Bool
 isOneOf n [] = false

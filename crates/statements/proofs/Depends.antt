@@ -5,11 +5,12 @@ use mathlib.Core.Logic.{⊎-elim}
 use mathlib.Core.Bool.{Bool, true, false, cond, not, _&&_}
 use mathlib.Core.List.{List, [], _∷_}
 use Prim.Native.Nat.{ℕ, _+_, _*_, _^_, _≤_, _<_}
+use native.Mathlib.Nat.{le-of-lt}
 use native.Mathlib.Omega.{arith}
 use lib.ListN.{length, take, getD}
 use lib.Seq.{ext-getD, getD-take}
-use lib.Dec.{ltb}
-use borrow.Author.Tests.{le-ltb, ltb-true, ltb-false, eq-eqb}
+use lib.Dec.{ltb, eqb}
+use borrow.Author.Tests.{le-ltb, ltb-true, ltb-false, eq-eqb, eqb-true, eqb-false}
 use Rattle.bools.proofs.Bools.{below-or-not}
 use Rattle.precision.specs.Precision.{inRange, imageLength, wordCount, wordWidth}
 use Rattle.nodes.specs.Nodes.{decode, isRight}
@@ -22,7 +23,14 @@ use Rattle.image.specs.Calls.{checkOutcome, nodeOutcome, shownPart}
 use Rattle.image.proofs.Laws.{whole-bytes, byte-count}
 use Rattle.image.proofs.Lowest.{lowest-agrees}
 use Rattle.image.proofs.Judging.{node-end, node-above as node-above-end}
+use Rattle.operand.specs.Operand.{cutOperand}
+use Rattle.operand.specs.Refusals.{fractionRefusal, operandRefusal, brokenOperand}
+use Rattle.operand.proofs.Limits.{operand-refuses, operand-passes, operand-kept}
+use Rattle.interpolation.specs.Algorithm.{nodeNumber}
+use Rattle.interpolation.specs.Reciprocal.{nodeOf, readReciprocal}
+use Rattle.interpolation.specs.Calls.{cutRefusals, cutOutcome, reciprocalOutcome}
 use Rattle.statements.specs.Terms.{IsPrecision, IsLongEnough}
+use Rattle.statements.proofs.Reciprocals.{has-word}
 use Rattle.statements.proofs.Parts.{shown-empty, shown-length, shown-bytes}
 
 -- two buffers that are long enough
@@ -54,6 +62,51 @@ module _ (k : ℕ) (s t : List ℕ) (l : IsLongEnough k s) (m : IsLongEnough k t
       by false false below above =
           let last : j ≡ 2 ^ k = omega (arith, ltb-false j (2 ^ k) below, ltb-false (2 ^ k) j above) in
           node-end k s j v last ∙ ap served (rw (eq-eqb j (2 ^ k) last)) ∙ sym (node-end k t j w last)
+
+  -- at node i, up to node 2^k, all that is taken from its word
+  refusal-same : (i : ℕ) → i ≤ 2 ^ k → (i < 2 ^ k → wordOf k s i ≡ wordOf k t i) → wordRefusal k s i ≡ wordRefusal k t i
+  refusal-same i h e =
+      ⊎-elim (λ b. ap (λ (x : ℕ). record { applies = ltb i (2 ^ k) && not (isRight k i x); number = 6; place = i }) (e b))
+      (λ n. rw (le-ltb i (2 ^ k) n)) (below-or-not i (2 ^ k))
+
+  value-same : (i : ℕ) → i ≤ 2 ^ k → (i < 2 ^ k → wordOf k s i ≡ wordOf k t i) → nodeOf k s i ≡ nodeOf k t i
+  value-same i h e =
+      ⊎-elim (λ b. ap (decode k i) (e b)) (λ n. rw (eq-eqb i (2 ^ k) (omega arith))) (below-or-not i (2 ^ k))
+
+  -- the words of nodes j and j + 1 of a cut operand
+  cut-same : (x : ℕ) → nodeNumber k x < 2 ^ k → wordOf k s (nodeNumber k x) ≡ wordOf k t (nodeNumber k x) → (nodeNumber k x + 1 < 2 ^ k → wordOf k s (nodeNumber k x + 1) ≡ wordOf k t (nodeNumber k x + 1))
+      → cutOutcome k s x ≡ cutOutcome k t x
+  cut-same x h e d =
+      let next : nodeNumber k x + 1 ≤ 2 ^ k = omega arith in
+      let r = refusal-same (nodeNumber k x) (le-of-lt h) (λ b. e) in
+      let r' = refusal-same (nodeNumber k x + 1) next d in
+      let c = value-same (nodeNumber k x) (le-of-lt h) (λ b. e) in
+      let c' = value-same (nodeNumber k x + 1) next d in
+      cc
+
+  pub reciprocal-same : (n X : ℕ) → (nodeNumber k (cutOperand k n X) < 2 ^ k → wordOf k s (nodeNumber k (cutOperand k n X)) ≡ wordOf k t (nodeNumber k (cutOperand k n X)))
+      → (nodeNumber k (cutOperand k n X) + 1 < 2 ^ k → wordOf k s (nodeNumber k (cutOperand k n X) + 1) ≡ wordOf k t (nodeNumber k (cutOperand k n X) + 1))
+      → reciprocalOutcome k s n X ≡ reciprocalOutcome k t n X
+  reciprocal-same n X e d = rest-same (limits s) (limits t) (value s) (value t) (by (eqb (brokenOperand k n X) 0) refl)
+    where
+      words : List ℕ → List Refusal
+      words u = cutRefusals k u (cutOperand k n X)
+
+      limits : List ℕ → List Refusal
+      limits u = fractionRefusal k n ∷ operandRefusal n X ∷ words u
+
+      value : List ℕ → ℕ
+      value u = readReciprocal k u (cutOperand k n X)
+
+      by : (b : Bool) → eqb (brokenOperand k n X) 0 ≡ b → outcome (limits s) (value s) ≡ outcome (limits t) (value t)
+      by true z =
+          let none = eqb-true (brokenOperand k n X) 0 z in
+          let o = operand-kept k n X none in
+          let h = has-word k n X (o .enough) (o .least, o .below) in
+          operand-passes k n X (words s) (value s) none
+          ∙ cut-same (cutOperand k n X) h (e h) d
+          ∙ sym (operand-passes k n X (words t) (value t) none)
+      by false z = operand-refuses k n X (words s) (value s) (eqb-false (brokenOperand k n X) 0 z) ∙ sym (operand-refuses k n X (words t) (value t) (eqb-false (brokenOperand k n X) 0 z))
 
   pub check-same : ((j : ℕ) → j < 2 ^ k → wordOf k s j ≡ wordOf k t j) → checkOutcome k s ≡ checkOutcome k t
   check-same e =

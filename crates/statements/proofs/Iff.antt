@@ -48,7 +48,11 @@ row5 = (λ t. (t .0, t .1 .0, t .1 .1 .0, t .1 .1 .1 .0, t .1 .1 .1 .1), λ t. (
 pub row6 : {A B C D E F : Type 0} → (A × (B × (C × (D × (E × F))))) ↔ (A × B × C × D × E × F)
 row6 = (λ t. (t .0, t .1 .0, t .1 .1 .0, t .1 .1 .1 .0, t .1 .1 .1 .1 .0, t .1 .1 .1 .1 .1), λ t. (t .0, (t .1, (t .2, (t .3, (t .4, t .5))))))
 
--- a test that failed, as an equation, and an equation as a test that passed
+-- a test that passed, as an equation, and the other way round
+pub passed : (b : Bool) → T b → b ≡ true
+passed true t = refl
+passed false t = absurd t
+
 pub failed : (b : Bool) → T (not b) → b ≡ false
 failed true t = absurd t
 failed false t = refl
@@ -121,6 +125,13 @@ no-wrong-word k s j = (to, from)
 
     from : (j < 2 ^ k → IsRightAt k s j) → T (not (ltb j (2 ^ k) && isWrong k s j))
     from f = not-T (ltb j (2 ^ k) && isWrong k s j) (λ t. let w = wrong-word k s j .0 t in w .1 (f (w .0)))
+
+-- the same as equations
+pub read-wrong : (k : ℕ) (s : List ℕ) (j : ℕ) → j < 2 ^ k → (IsRightAt k s j → ⊥) → (ltb j (2 ^ k) && isWrong k s j) ≡ true
+read-wrong k s j h f = passed (ltb j (2 ^ k) && isWrong k s j) (wrong-word k s j .1 (h, f))
+
+pub read-right : (k : ℕ) (s : List ℕ) (j : ℕ) → (j < 2 ^ k → IsRightAt k s j) → (ltb j (2 ^ k) && isWrong k s j) ≡ false
+read-right k s j f = failed (ltb j (2 ^ k) && isWrong k s j) (no-wrong-word k s j .1 f)
 
 -- some word of the image is wrong, and none is
 pub some-wrong : (k : ℕ) (s : List ℕ) → T (ltb (firstWrong k s) (wordCount k)) ↔ ((j : ℕ) × (j < 2 ^ k) × (IsRightAt k s j → ⊥))

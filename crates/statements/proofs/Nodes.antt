@@ -9,16 +9,18 @@ use native.Mathlib.Nat.{le-of-lt, le-of-eq, div-eq-of-lt-le}
 use native.Mathlib.Omega.{arith}
 use lib.Pow.{pow-pos}
 use lib.Dec.{ltb}
-use borrow.Author.Tests.{ltb-true, ltb-false, eq-eqb}
-use Rattle.nodes.specs.Nodes.{node, decode, storedWord}
-use Rattle.nodes.proofs.Nodes.{decode-right, decode-last, node-first, node-above, node-below, node-last, lead-double, stored-word-first, stored-word-between}
+use borrow.Author.Tests.{ltb-true, ltb-false}
+use Rattle.nodes.specs.Nodes.{node, decode}
+use Rattle.nodes.proofs.Nodes.{node-first, node-above, node-below, node-last, lead-double, stored-word-first, stored-word-between}
 use Rattle.answers.specs.Refusal.{Outcome, served}
 use Rattle.image.specs.Image.{wordOf}
 use Rattle.image.specs.Refusals.{nodeRefusal, wordRefusal}
 use Rattle.image.specs.Calls.{nodeOutcome}
 use Rattle.image.proofs.Laws.{right-not-wrong}
-use Rattle.image.proofs.Judging.{node-right}
+use Rattle.image.proofs.Judging.{node-right as word-right}
+use Rattle.interpolation.proofs.Answers.{node-right}
 use Rattle.statements.specs.Terms.{IsPrecision, IsLongEnough, IsRightAt}
+use Rattle.statements.proofs.Iff.{read-right}
 use Rattle.statements.proofs.Numbers.{kept-answer, later-number, node-number-0}
 
 -- i = 2^k + j is never 0
@@ -38,15 +40,7 @@ leading-one k j h l =
 
 -- the word of a served node decodes to the node
 pub served-decodes : (k : ℕ) (s : List ℕ) (j : ℕ) → j ≤ 2 ^ k → (j < 2 ^ k → IsRightAt k s j) → decode k j (wordOf k s j) ≡ node k j
-served-decodes k s j h f = by (ltb j (2 ^ k)) refl
-  where
-    by : (b : Bool) → ltb j (2 ^ k) ≡ b → decode k j (wordOf k s j) ≡ node k j
-    by true e =
-        let l = ltb-true j (2 ^ k) e in
-        decode-right k j (wordOf k s j) l (eq-eqb (wordOf k s j) (storedWord k j) (f l))
-    by false e =
-        let same : j ≡ 2 ^ k = omega (arith, ltb-false j (2 ^ k) e) in
-        ap (λ (i : ℕ). decode k i (wordOf k s j)) same ∙ decode-last k (wordOf k s j) ∙ ap (node k) (sym same)
+served-decodes k s j h f = node-right k s j h (read-right k s j f)
 
 -- zero words
 pub zero-right : (k : ℕ) (s : List ℕ) → wordOf k s 0 ≡ 0 → IsRightAt k s 0
@@ -63,7 +57,7 @@ zero-node k s p l = (to, from)
     to e =
         let right = zero-right k s e in
         kept-answer k s (nodeRefusal k 0 ∷ wordRefusal k s 0 ∷ []) (decode k 0 (wordOf k s 0)) p l
-        ∙ node-right k s 0 (decode k 0 (wordOf k s 0)) (pow-pos k) (right-not-wrong k s 0 right)
+        ∙ word-right k s 0 (decode k 0 (wordOf k s 0)) (pow-pos k) (right-not-wrong k s 0 right)
         ∙ ap served (served-decodes k s 0 (omega arith) (λ h. right) ∙ node-first k)
 
     from : nodeOutcome k s 0 ≡ served (2 ^ (2 * k + 3)) → wordOf k s 0 ≡ 0

@@ -10,7 +10,7 @@ use native.Mathlib.Omega.{arith}
 use lib.Dec.{T, eqb}
 use lib.ListN.{length}
 use Rattle.answers.specs.Refusal.{Refusal, Outcome, outcome, served}
-use Rattle.answers.proofs.Order.{avoids, first, later, shared, refuses, lets-by}
+use Rattle.answers.proofs.Order.{avoids, first, later, shared}
 use Rattle.precision.specs.Precision.{imageLength}
 use Rattle.nodes.specs.Nodes.{node}
 use Rattle.image.specs.Refusals.{wordRefusal}
@@ -21,10 +21,10 @@ use Rattle.operand.proofs.Limits.{operand-passes, operand-none}
 use Rattle.interpolation.specs.Algorithm.{nodeNumber, fraction, productSum, chopped, cutReciprocal}
 use Rattle.interpolation.specs.Reciprocal.{nodeOf, readReciprocal, reciprocal}
 use Rattle.interpolation.specs.Calls.{cutRefusals, cutOutcome, reciprocalOutcome}
+use Rattle.interpolation.proofs.Answers.{first-wrong, next-wrong, none-wrong, read-right as gives-R}
 use Rattle.interpolation.proofs.Cut.{cut-number-below, cut-reciprocal-least, cut-reciprocal-most}
 use Rattle.statements.specs.Terms.{IsPrecision, IsLongEnough, IsRightAt, IsFractionCount, IsNormalised}
-use Rattle.statements.proofs.Iff.{joined, same, both, under, either, row3, row4, row5, row6, is-count, no-count, is-normalised, not-normalised, wrong-word, no-wrong-word}
-use Rattle.statements.proofs.Nodes.{served-decodes}
+use Rattle.statements.proofs.Iff.{joined, same, both, under, either, row3, row4, row5, row6, is-count, no-count, is-normalised, not-normalised, wrong-word, no-wrong-word, read-wrong, read-right}
 use Rattle.statements.proofs.Numbers.{alone, refuses-1, refuses-2, kept-answer, later-number}
 
 -- the limits of n and X in front of any list of refusals
@@ -64,26 +64,6 @@ module _ (k : ℕ) (s : List ℕ) (j v : ℕ) (h : j < 2 ^ k) where
       joined (later 0 (wordRefusal k s j) (wordRefusal k s (j + 1) ∷ []) v tt)
       (both (joined (no-wrong-word k s j) (λ f. f h, λ r m. r))
       (joined (later 0 (wordRefusal k s (j + 1)) [] v tt) (joined alone (no-wrong-word k s (j + 1)))))
-
-  -- the whole answer: the lower wrong one of the two is named
-  words-lower : (IsRightAt k s j → ⊥) → outcome words v ≡ record { number = 6; place = j; value = 0 }
-  words-lower f = refuses (wordRefusal k s j) (wordRefusal k s (j + 1) ∷ []) v (wrong-word k s j .1 (h, f))
-
-  words-upper : IsRightAt k s j → j + 1 < 2 ^ k → (IsRightAt k s (j + 1) → ⊥) → outcome words v ≡ record { number = 6; place = j + 1; value = 0 }
-  words-upper r m f =
-      lets-by (wordRefusal k s j) (wordRefusal k s (j + 1) ∷ []) v (no-wrong-word k s j .1 (λ l. r))
-      ∙ refuses (wordRefusal k s (j + 1)) [] v (wrong-word k s (j + 1) .1 (m, f))
-
-  words-right : IsRightAt k s j → (j + 1 < 2 ^ k → IsRightAt k s (j + 1)) → outcome words v ≡ served v
-  words-right r q =
-      lets-by (wordRefusal k s j) (wordRefusal k s (j + 1) ∷ []) v (no-wrong-word k s j .1 (λ l. r))
-      ∙ lets-by (wordRefusal k s (j + 1)) [] v (no-wrong-word k s (j + 1) .1 q)
-
--- right words give R
-read-right : (k : ℕ) (s : List ℕ) (t : ℕ) → nodeNumber k t < 2 ^ k → IsRightAt k s (nodeNumber k t) → (nodeNumber k t + 1 < 2 ^ k → IsRightAt k s (nodeNumber k t + 1)) → readReciprocal k s t ≡ cutReciprocal k t
-read-right k s t h r q =
-    ap (λ (c : ℕ). chopped k (productSum k c (nodeOf k s (nodeNumber k t + 1)) (fraction k t))) (served-decodes k s (nodeNumber k t) (le-of-lt h) (λ l. r))
-    ∙ ap (λ (c : ℕ). chopped k (productSum k (node k (nodeNumber k t)) c (fraction k t))) (served-decodes k s (nodeNumber k t + 1) (omega (arith, h)) q)
 
 -- the whole call
 module _ (k n X : ℕ) where
@@ -148,13 +128,16 @@ module _ (k n X : ℕ) where
       kept-cut = kept-answer k s behind-limits v p l ∙ kept-operand k n X words-read v c o
 
       pub lower-named : (IsRightAt k s j → ⊥) → reciprocalOutcome k s n X ≡ record { number = 6; place = j; value = 0 }
-      lower-named f = kept-cut ∙ words-lower k s j v (has-word (c .0) o) f
+      lower-named f = kept-cut ∙ first-wrong k s (cutOperand k n X) (read-wrong k s j (has-word (c .0) o) f)
 
       pub upper-named : IsRightAt k s j → j + 1 < 2 ^ k → (IsRightAt k s (j + 1) → ⊥) → reciprocalOutcome k s n X ≡ record { number = 6; place = j + 1; value = 0 }
-      upper-named r m f = kept-cut ∙ words-upper k s j v (has-word (c .0) o) r m f
+      upper-named r m f = kept-cut ∙ next-wrong k s (cutOperand k n X) (read-right k s j (λ l. r)) (read-wrong k s (j + 1) m f)
 
       pub gives : IsRightAt k s j → (j + 1 < 2 ^ k → IsRightAt k s (j + 1)) → reciprocalOutcome k s n X ≡ served (reciprocal k n X)
-      gives r q = kept-cut ∙ words-right k s j v (has-word (c .0) o) r q ∙ ap served (read-right k s (cutOperand k n X) (has-word (c .0) o) r q)
+      gives r q =
+          let a = read-right k s j (λ l. r) in
+          let b = read-right k s (j + 1) q in
+          kept-cut ∙ none-wrong k s (cutOperand k n X) a b ∙ ap served (gives-R k s (cutOperand k n X) a b (has-word (c .0) o))
 
     -- the place under 6
     pub lower-place : reciprocalOutcome k s n X .number ≡ 6 → (IsRightAt k s j → ⊥) → reciprocalOutcome k s n X .place ≡ j
