@@ -21,9 +21,14 @@ use Rattle.image.specs.Calls.{buildOutcome, buildLeaves, checkOutcome, nodeOutc
 use Rattle.image.proofs.Laws.{built-front, image-length, image-word, built-length, right-not-wrong, stored-lt}
 use Rattle.image.proofs.Lowest.{lowest-none}
 use Rattle.image.proofs.Judging.{node-right, node-end}
-use Rattle.statements.specs.Terms.{IsPrecision, IsLongEnough, IsRightAt}
+use Rattle.operand.specs.Operand.{cutOperand}
+use Rattle.interpolation.specs.Algorithm.{nodeNumber}
+use Rattle.interpolation.specs.Reciprocal.{reciprocal}
+use Rattle.interpolation.specs.Calls.{reciprocalOutcome}
+use Rattle.statements.specs.Terms.{IsPrecision, IsLongEnough, IsRightAt, IsFractionCount, IsNormalised}
 use Rattle.statements.proofs.Nodes.{served-decodes}
 use Rattle.statements.proofs.Numbers.{kept-answer, later-number}
+use Rattle.statements.proofs.Reciprocals.{has-word, gives}
 
 -- what the builder leaves, by its answer
 module _ (k : ℕ) (s : List ℕ) where
@@ -73,6 +78,10 @@ module _ (k : ℕ) (s : List ℕ) (p : IsPrecision k) (l : IsLongEnough k s) whe
           let m = ltb-true j (2 ^ k) e in
           node-right k (buildLeaves k s) j (decode k j (wordOf k (buildLeaves k s) j)) m (right-not-wrong k (buildLeaves k s) j (built-words j m))
       by false e = node-end k (buildLeaves k s) j (decode k j (wordOf k (buildLeaves k s) j)) (omega (arith, ltb-false j (2 ^ k) e))
+
+  pub built-gives : (n X : ℕ) → IsFractionCount k n → IsNormalised n X → reciprocalOutcome k (buildLeaves k s) n X ≡ served (reciprocal k n X)
+  built-gives n X c o =
+      gives k n X (buildLeaves k s) p still-long c o (built-words (nodeNumber k (cutOperand k n X)) (has-word k n X (c .0) o)) (built-words (nodeNumber k (cutOperand k n X) + 1))
 
   pub built-checks : checkOutcome k (buildLeaves k s) ≡ served 0
   built-checks =

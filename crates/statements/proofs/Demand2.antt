@@ -1,9 +1,9 @@
 -- Demand 2. "Image and reciprocal are those of Algorithms 1 and 2 of Das Sarma and Matula, with two table and three input guard bits.
 -- Nodes read back from a built image are those put in; an image passes the check exactly when all its words are right."
 --
--- Here for the nodes and the image. Each theorem assumes no more than ranges of its numbers: that k is a precision, that a buffer is
--- long enough, that its elements are bytes.
-use mathlib.Core.Path.{_≡_}
+-- For the nodes, the image and the reciprocal. Each theorem assumes no more than ranges of its numbers: that k is a precision, that n is
+-- from 2k + 3 to 63, that X is normalised, that a buffer is long enough, that its elements are bytes.
+use mathlib.Core.Path.{_≡_, refl}
 use mathlib.Core.Logic.{_↔_}
 use mathlib.Core.List.{List}
 use Prim.Native.Nat.{ℕ, _+_, _-_, _*_, _/_, _%_, _^_, _≤_, _<_}
@@ -19,12 +19,17 @@ use Rattle.answers.specs.Refusal.{served}
 use Rattle.image.specs.Image.{image, wordOf}
 use Rattle.image.specs.Calls.{buildLeaves, checkOutcome, nodeOutcome, shownPart}
 use Rattle.image.proofs.Laws.{whole-bytes, image-length, right-front, front-right}
-use Rattle.statements.specs.Terms.{IsPrecision, IsLongEnough, IsRightAt}
+use Rattle.operand.specs.Operand.{cutOperand}
+use Rattle.interpolation.specs.Algorithm.{index, nodeNumber, fraction, cutProductSum}
+use Rattle.interpolation.specs.Reciprocal.{reciprocal}
+use Rattle.interpolation.specs.Calls.{reciprocalOutcome}
+use Rattle.statements.specs.Terms.{IsPrecision, IsLongEnough, IsRightAt, IsFractionCount, IsNormalised}
 use Rattle.statements.proofs.Iff.{joined}
 use Rattle.statements.proofs.Demand1.{check-serves}
 use Rattle.statements.proofs.Built
 use Rattle.statements.proofs.Depends
 use Rattle.statements.proofs.Nodes
+use Rattle.statements.proofs.Reciprocals
 
 -- The nodes (document 002, Algorithm 1), for every k.
 module _ (k : ℕ) where
@@ -58,6 +63,55 @@ module _ (k : ℕ) where
   pub node-step : (j : ℕ) → j < 2 ^ k → node k (j + 1) < node k j
   node-step = node-falls k
 
+-- The reciprocal (document 002, Algorithm 2), for every k, n and X: the definitions in the paper's letters, step by step.
+module _ (k n X : ℕ) where
+  abbrev t : ℕ
+  t = cutOperand k n X
+
+  abbrev i : ℕ
+  i = index k t
+
+  abbrev j : ℕ
+  j = nodeNumber k t
+
+  abbrev f : ℕ
+  f = fraction k t
+
+  abbrev c : ℕ → ℕ
+  c = node k
+
+  abbrev P : ℕ
+  P = cutProductSum k t
+
+  abbrev R : ℕ
+  R = reciprocal k n X
+
+  -- 1. t = floor(X / 2^(n-2k-3))
+  pub step-t : t ≡ X / 2 ^ (n - (2 * k + 3))
+  step-t = refl
+
+  -- 2. i = floor(t / 2^(k+3)), j = i - 2^k, f = t modulo 2^(k+3)
+  pub step-i : i ≡ t / 2 ^ (k + 3)
+  step-i = refl
+
+  pub step-j : j ≡ i - 2 ^ k
+  step-j = refl
+
+  pub step-f : f ≡ t % 2 ^ (k + 3)
+  step-f = refl
+
+  -- 3. P = c(j) × 2^(k+3) - (c(j) - c(j+1)) × f
+  pub step-P : P ≡ c j * 2 ^ (k + 3) - (c j - c (j + 1)) * f
+  step-P = refl
+
+  -- 4. R = floor(P / 2^(k+5))
+  pub step-R : R ≡ P / 2 ^ (k + 5)
+  step-R = refl
+
+  -- no difference falls below 0 where 2k + 3 ≤ n and X is normalised
+  pub differences : 2 * k + 3 ≤ n → IsNormalised n X → (2 ^ k + j ≡ i) × (j < 2 ^ k) × (c (j + 1) ≤ c j) × ((c j - c (j + 1)) * f ≤ c j * 2 ^ (k + 3))
+  differences = Reciprocals.whole k n X
+
 -- The image.
 module _ (k : ℕ) (p : IsPrecision k) where
   -- it has 2^k × (2k + 2) / 8 bytes, and these are whole
@@ -87,6 +141,10 @@ module _ (k : ℕ) (p : IsPrecision k) where
   pub built-passes : (s : List ℕ) → IsLongEnough k s → checkOutcome k (buildLeaves k s) ≡ served 0
   built-passes s l = Built.built-checks k s p l
 
+  -- every operand in range is given its R from a buffer that was built, whatever the buffer held before
+  pub built-gives : (s : List ℕ) → IsLongEnough k s → (n X : ℕ) → IsFractionCount k n → IsNormalised n X → reciprocalOutcome k (buildLeaves k s) n X ≡ served (reciprocal k n X)
+  built-gives s l = Built.built-gives k s p l
+
   -- an image passes the check exactly when each word is the construction's
   pub check-passes-words : (s : List ℕ) → IsLongEnough k s → (checkOutcome k s .number ≡ 0) ↔ ((j : ℕ) → j < 2 ^ k → wordOf k s j ≡ node k j % 2 ^ (2 * k + 2))
   check-passes-words s l = joined (check-serves k s) (λ t. t .2, λ t. (p, l, t))
@@ -105,6 +163,22 @@ module _ (k : ℕ) (s t : List ℕ) (l : IsLongEnough k s) (m : IsLongEnough k t
   pub check-by-words : ((j : ℕ) → j < 2 ^ k → wordOf k s j ≡ wordOf k t j) → checkOutcome k s ≡ checkOutcome k t
   check-by-words = Depends.check-same k s t l m
 
+  -- the reciprocal's depends on the words of j and j + 1 alone, and where j + 1 is 2^k on that of j
+  pub reciprocal-by-words : (n X : ℕ) → wordOf k s (j k n X) ≡ wordOf k t (j k n X) → (j k n X + 1 < 2 ^ k → wordOf k s (j k n X + 1) ≡ wordOf k t (j k n X + 1)) → reciprocalOutcome k s n X ≡ reciprocalOutcome k t n X
+  reciprocal-by-words n X e = Depends.reciprocal-same k s t l m n X (λ h. e)
+
+-- The reciprocal reads both words, whatever f is: a wrong one is named, the lower first.
+module _ (k : ℕ) (s : List ℕ) (n X : ℕ) (p : IsPrecision k) (l : IsLongEnough k s) (q : IsFractionCount k n) (o : IsNormalised n X) where
+  pub lower-word-named : (IsRightAt k s (j k n X) → ⊥) → reciprocalOutcome k s n X ≡ record { number = 6; place = j k n X; value = 0 }
+  lower-word-named = Reciprocals.lower-named k n X s p l q o
+
+  pub upper-word-named : IsRightAt k s (j k n X) → j k n X + 1 < 2 ^ k → (IsRightAt k s (j k n X + 1) → ⊥) → reciprocalOutcome k s n X ≡ record { number = 6; place = j k n X + 1; value = 0 }
+  upper-word-named = Reciprocals.upper-named k n X s p l q o
+
+  -- also when f is 0 and R does not depend on node j + 1
+  pub upper-word-named-at-0 : f k n X ≡ 0 → IsRightAt k s (j k n X) → j k n X + 1 < 2 ^ k → (IsRightAt k s (j k n X + 1) → ⊥) → reciprocalOutcome k s n X ≡ record { number = 6; place = j k n X + 1; value = 0 }
+  upper-word-named-at-0 e = upper-word-named
+
 -- The word of node j stands in its own bytes.
 pub word-by-its-bytes : (k : ℕ) (s t : List ℕ) (j : ℕ) → ((i : ℕ) → j * (2 * k + 2) / 8 ≤ i → i ≤ (j * (2 * k + 2) + (2 * k + 2) - 1) / 8 → getD s i 0 ≡ getD t i 0) → wordOf k s j ≡ wordOf k t j
 word-by-its-bytes k s t j = Depends.word-same k s t j
@@ -117,6 +191,9 @@ module _ (k : ℕ) (s t : List ℕ) (p : IsPrecision k) (l : IsLongEnough k s) (
 
   pub node-by-image : (j : ℕ) → nodeOutcome k s j ≡ nodeOutcome k t j
   node-by-image = Depends.front-node k s t p l m e
+
+  pub reciprocal-by-image : (n X : ℕ) → reciprocalOutcome k s n X ≡ reciprocalOutcome k t n X
+  reciprocal-by-image = Depends.front-reciprocal k s t p l m e
 
   pub part-by-image : (j : ℕ) → shownPart k s j ≡ shownPart k t j
   part-by-image = Depends.front-part k s t p l m e

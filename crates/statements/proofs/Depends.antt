@@ -1,4 +1,4 @@
--- What the answers of reading a node and of the check depend on.
+-- What the answers of reading a node, of the check and of the reciprocal depend on.
 -- Assumes nothing.
 use mathlib.Core.Path.{_≡_, refl, sym, _∙_, ap}
 use mathlib.Core.Logic.{⊎-elim}
@@ -129,6 +129,10 @@ module _ (k : ℕ) (s t : List ℕ) (p : IsPrecision k) (l : IsLongEnough k s) (
 
   pub front-node : (j : ℕ) → nodeOutcome k s j ≡ nodeOutcome k t j
   front-node j = node-same k s t l m j (front-word j)
+
+  pub front-reciprocal : (n X : ℕ) → reciprocalOutcome k s n X ≡ reciprocalOutcome k t n X
+  front-reciprocal n X =
+      reciprocal-same k s t l m n X (front-word (nodeNumber k (cutOperand k n X))) (front-word (nodeNumber k (cutOperand k n X) + 1))
 
   pub front-check : checkOutcome k s ≡ checkOutcome k t
   front-check = check-same k s t l m front-word

@@ -4,8 +4,8 @@ use mathlib.Core.Path.{_≡_, _∙_, ap}
 use mathlib.Core.Logic.{_↔_, _⊎_, ⊎-elim}
 use mathlib.Core.Bool.{not}
 use mathlib.Core.List.{List, [], _∷_}
-use Prim.Native.Nat.{ℕ, _+_, _*_, _^_, _≤_, _<_}
-use native.Mathlib.Nat.{le-of-lt}
+use Prim.Native.Nat.{ℕ, _+_, _-_, _*_, _^_, _≤_, _<_}
+use native.Mathlib.Nat.{le-of-lt, sub-le, mul-le-mul}
 use native.Mathlib.Omega.{arith}
 use lib.Dec.{T, eqb}
 use lib.ListN.{length}
@@ -18,11 +18,11 @@ use Rattle.operand.specs.Operand.{cutOperand}
 use Rattle.operand.specs.Refusals.{fractionRefusal, operandRefusal}
 use Rattle.operand.proofs.Laws.{cut-range}
 use Rattle.operand.proofs.Limits.{operand-passes, operand-none}
-use Rattle.interpolation.specs.Algorithm.{nodeNumber, fraction, productSum, chopped, cutReciprocal}
-use Rattle.interpolation.specs.Reciprocal.{nodeOf, readReciprocal, reciprocal}
+use Rattle.interpolation.specs.Algorithm.{index, nodeNumber, fraction}
+use Rattle.interpolation.specs.Reciprocal.{readReciprocal, reciprocal}
 use Rattle.interpolation.specs.Calls.{cutRefusals, cutOutcome, reciprocalOutcome}
 use Rattle.interpolation.proofs.Answers.{first-wrong, next-wrong, none-wrong, read-right as gives-R}
-use Rattle.interpolation.proofs.Cut.{cut-number-below, cut-reciprocal-least, cut-reciprocal-most}
+use Rattle.interpolation.proofs.Cut.{cut-index, cut-number-below, cut-node-falls, cut-fraction-below, cut-reciprocal-least, cut-reciprocal-most}
 use Rattle.statements.specs.Terms.{IsPrecision, IsLongEnough, IsRightAt, IsFractionCount, IsNormalised}
 use Rattle.statements.proofs.Iff.{joined, same, both, under, either, row3, row4, row5, row6, is-count, no-count, is-normalised, not-normalised, wrong-word, no-wrong-word, read-wrong, read-right}
 use Rattle.statements.proofs.Numbers.{alone, refuses-1, refuses-2, kept-answer, later-number}
@@ -79,6 +79,17 @@ module _ (k n X : ℕ) where
   -- so it leads to a node that has a word
   pub has-word : 2 * k + 3 ≤ n → IsNormalised n X → j < 2 ^ k
   has-word e o = let r = cut-in-range e o in cut-number-below k (cutOperand k n X) (r .0) (r .1)
+
+  -- no difference of Algorithm 2 falls below 0
+  pub whole : 2 * k + 3 ≤ n → IsNormalised n X
+      → (2 ^ k + j ≡ index k (cutOperand k n X)) × (j < 2 ^ k) × (node k (j + 1) ≤ node k j) × ((node k j - node k (j + 1)) * fraction k (cutOperand k n X) ≤ node k j * 2 ^ (k + 3))
+  whole e o =
+      let r = cut-in-range e o in (
+        cut-index k (cutOperand k n X) (r .0) (r .1),
+        has-word e o,
+        cut-node-falls k (cutOperand k n X) (r .0) (r .1),
+        mul-le-mul (sub-le (node k j) (node k (j + 1))) (le-of-lt (cut-fraction-below k (cutOperand k n X) (r .0) (r .1))),
+      )
 
   -- R runs from 2^(2k) to 2^(2k+1)
   pub from : 2 * k + 3 ≤ n → IsNormalised n X → 2 ^ (2 * k) ≤ reciprocal k n X
