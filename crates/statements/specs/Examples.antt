@@ -7,7 +7,16 @@ use Prim.Native.Nat.{ℕ, zero, suc}
 use lib.ListN.{length, replicate}
 use Rattle.answers.specs.Refusal.{Outcome, served}
 use Rattle.image.specs.Calls.{buildOutcome, buildLeaves, checkOutcome, nodeOutcome}
+use Rattle.operand.specs.Operand.{cutOperand}
+use Rattle.interpolation.specs.Algorithm.{cutProductSum}
+use Rattle.interpolation.specs.Reciprocal.{reciprocal}
+use Rattle.interpolation.specs.Calls.{reciprocalOutcome}
 use Rattle.table_text.specs.TableText.{tableText}
+
+-- what holds of each row of a table
+abbrev pub Each : {A : Type 0} → (A → Type 0) → List A → Type 0
+Each P [] = Unit {0}
+Each P (x ∷ xs) = P x × Each P xs
 
 -- a precision, its nodes 0 to 2^k and its image
 pub record ImageExample : Type 0 where
@@ -15,16 +24,22 @@ pub record ImageExample : Type 0 where
   pub nodes : List ℕ
   pub bytes : List ℕ
 
-abbrev pub imageExamples : List ImageExample
-imageExamples =
-    record { k = 1; nodes = 32 ∷ 22 ∷ 16 ∷ []; bytes = 0x06 ∷ [] }
-    ∷ record { k = 2; nodes = 128 ∷ 103 ∷ 86 ∷ 74 ∷ 64 ∷ []; bytes = 0x02 ∷ 0x75 ∷ 0x8A ∷ [] }
-    ∷ record {
+abbrev pub image1 : ImageExample
+image1 = record { k = 1; nodes = 32 ∷ 22 ∷ 16 ∷ []; bytes = 0x06 ∷ [] }
+
+abbrev pub image2 : ImageExample
+image2 = record { k = 2; nodes = 128 ∷ 103 ∷ 86 ∷ 74 ∷ 64 ∷ []; bytes = 0x02 ∷ 0x75 ∷ 0x8A ∷ [] }
+
+abbrev pub image3 : ImageExample
+image3 =
+    record {
       k = 3;
       nodes = 512 ∷ 456 ∷ 410 ∷ 373 ∷ 342 ∷ 316 ∷ 293 ∷ 274 ∷ 256 ∷ [];
       bytes = 0x00 ∷ 0xC8 ∷ 0x9A ∷ 0x75 ∷ 0x56 ∷ 0x3C ∷ 0x25 ∷ 0x12 ∷ [];
     }
-    ∷ []
+
+abbrev pub imageExamples : List ImageExample
+imageExamples = image1 ∷ image2 ∷ image3 ∷ []
 
 -- the answers of reading the first n nodes
 abbrev pub readNodes : ℕ → List ℕ → ℕ → List Outcome
@@ -37,6 +52,34 @@ pub record ImageHolds (e : ImageExample) : Type 0 where
   pub built : buildLeaves (e .k) (replicate (length (e .bytes)) 255) ≡ e .bytes
   pub read : readNodes (e .k) (e .bytes) (length (e .nodes)) ≡ map served (e .nodes)
   pub passes : checkOutcome (e .k) (e .bytes) ≡ served 0
+
+-- the image above whose precision and bytes are used, the operand X with n fraction bits, P where document 01 gives it, and R
+pub record ReciprocalExample : Type 0 where
+  pub from : ImageExample
+  pub n : ℕ
+  pub X : ℕ
+  pub P : List ℕ
+  pub R : ℕ
+
+-- 2^63 + 1 and 2^64 - 1 are written out
+abbrev pub reciprocalExamples : List ReciprocalExample
+reciprocalExamples =
+    record { from = image2; n = 7; X = 128; P = []; R = 32 }
+    ∷ record { from = image2; n = 7; X = 129; P = []; R = 31 }
+    ∷ record { from = image2; n = 7; X = 135; P = 3921 ∷ []; R = 30 }
+    ∷ record { from = image2; n = 7; X = 160; P = []; R = 25 }
+    ∷ record { from = image2; n = 7; X = 255; P = []; R = 16 }
+    ∷ record { from = image2; n = 63; X = 9223372036854775809; P = []; R = 32 }
+    ∷ record { from = image2; n = 63; X = 18446744073709551615; P = []; R = 16 }
+    ∷ record { from = image1; n = 5; X = 32; P = []; R = 8 }
+    ∷ record { from = image1; n = 5; X = 63; P = []; R = 4 }
+    ∷ []
+
+-- R and P are those of X, and the call from the image gives R
+pub record ReciprocalHolds (e : ReciprocalExample) : Type 0 where
+  pub is-R : reciprocal (e .from .k) (e .n) (e .X) ≡ e .R
+  pub given : reciprocalOutcome (e .from .k) (e .from .bytes) (e .n) (e .X) ≡ served (e .R)
+  pub is-P : Each (λ (P : ℕ). cutProductSum (e .from .k) (cutOperand (e .from .k) (e .n) (e .X)) ≡ P) (e .P)
 
 -- an input and the text that is printed for it, as bytes
 pub record TextExample : Type 0 where
@@ -69,7 +112,8 @@ textExamples =
 abbrev pub TextHolds : TextExample → Type 0
 TextHolds e = tableText (e .input) ≡ e .text
 
--- what holds of each row of a table
-abbrev pub Each : {A : Type 0} → (A → Type 0) → List A → Type 0
-Each P [] = Unit {0}
-Each P (x ∷ xs) = P x × Each P xs
+-- every example of each table holds
+pub record ExamplesHold : Type 0 where
+  pub images : Each ImageHolds imageExamples
+  pub reciprocals : Each ReciprocalHolds reciprocalExamples
+  pub texts : Each TextHolds textExamples
