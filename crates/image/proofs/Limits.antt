@@ -1,7 +1,7 @@
 -- What the limits of k and the buffer mean for every list of refusals that begins with them.
 -- Assumes nothing.
 use mathlib.Core.Path.{_≡_, refl}
-use mathlib.Core.Bool.{Bool, true, false, cond, not, _||_, true≢false}
+use mathlib.Core.Bool.{Bool, true, false, not, _||_, true≢false}
 use mathlib.Core.List.{List, _∷_}
 use Prim.Native.Nat.{ℕ, _+_, _*_, _^_, _≤_}
 use native.Mathlib.Omega.{arith}

@@ -1,6 +1,6 @@
 -- The one-ulp bound for tables with a ≥ 2 table guard bits and b ≥ 3 input guard bits: of every cut operand, and of every operand.
 -- Assumes nothing.
-use mathlib.Core.Path.{_≡_, ap, _∙_}
+use mathlib.Core.Path.{_≡_, ap}
 use Prim.Native.Nat.{ℕ, _+_, _-_, _*_, _/_, _%_, _^_, _≤_, _<_}
 use native.Mathlib.Nat.{mul-pos}
 use native.Mathlib.Omega.{arith}

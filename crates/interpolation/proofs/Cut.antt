@@ -1,13 +1,13 @@
 -- The laws of a cut operand at every k: where it lies, how large P and R are, and what the words of a buffer give for it.
 -- Assumes nothing.
 use mathlib.Core.Path.{_≡_, sym, ap, _∙_}
-use Prim.Native.Nat.{ℕ, _+_, _-_, _*_, _/_, _%_, _^_, _≤_, _<_}
+use Prim.Native.Nat.{ℕ, _+_, _-_, _*_, _^_, _≤_, _<_}
 use native.Mathlib.Nat.{le-of-lt, sub-le, mul-le-mul, mul-le-mul-right, le-div-iff-mul-le, div-le-of-le-mul}
 use native.Mathlib.Omega.{arith}
-use lib.Pow.{pow-pos, pow-add, pow-mono}
+use lib.Pow.{pow-pos, pow-add}
 use Rattle.nodes.specs.Nodes.{node}
-use Rattle.nodes.proofs.Nodes.{node-first, node-last, node-ordered, node-near}
-use Rattle.interpolation.specs.Algorithm.{index, nodeNumber, fraction, productSum, chopped, cutProductSum, cutReciprocal}
+use Rattle.nodes.proofs.Nodes.{node-first, node-last, node-ordered}
+use Rattle.interpolation.specs.Algorithm.{index, nodeNumber, fraction, productSum, chopped, cutReciprocal}
 use Rattle.interpolation.proofs.Pieces as pieces
 use Rattle.interpolation.proofs.Powers as powers
 use Rattle.interpolation.proofs.Table.{sum-least}
@@ -44,6 +44,17 @@ module _ (k t : ℕ) (least : 2 ^ (2 * k + 3) ≤ t) (most : t < 2 ^ (2 * k + 4)
 module _ (k c c' f : ℕ) (falls : c' ≤ c) (inside : f ≤ 2 ^ (k + 3)) where
   pub sum-most : productSum k c c' f ≤ c * 2 ^ (k + 3)
   sum-most = sub-le (c * 2 ^ (k + 3)) ((c - c') * f)
+
+  -- the two products of P: the second is no greater than the first, which has at most 3k + 6 bits behind its leading one
+  pub difference-most : (c - c') * f ≤ c * 2 ^ (k + 3)
+  difference-most = mul-le-mul (sub-le c c') inside
+
+  pub product-most : c ≤ 2 ^ (2 * k + 3) → c * 2 ^ (k + 3) ≤ 2 ^ (3 * k + 6)
+  product-most h = omega (arith, mul-le-mul-right (2 ^ (k + 3)) h, together)
+    where
+      together : 2 ^ (2 * k + 3) * 2 ^ (k + 3) ≡ 2 ^ (3 * k + 6)
+      together =
+          sym (pow-add 2 (2 * k + 3) (k + 3)) ∙ ap (λ (e : ℕ). 2 ^ e) {x = 2 * k + 3 + (k + 3)} {y = 3 * k + 6} (omega arith)
 
   pub chopped-most : c ≤ 2 ^ (2 * k + 3) → chopped k (productSum k c c' f) ≤ 2 ^ (2 * k + 1)
   chopped-most h =

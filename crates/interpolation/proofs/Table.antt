@@ -2,7 +2,7 @@
 -- each 2^(-2k) of the operand. The nodes exceed the exact values by at most H on each piece, and A - H is D. Of the operand only t is
 -- spoken of.
 -- Assumes nothing.
-use mathlib.Core.Path.{_≡_, sym, ap, _∙_}
+use mathlib.Core.Path.{_≡_, ap}
 use Prim.Native.Nat.{ℕ, _+_, _-_, _*_, _/_, _%_, _≤_, _<_}
 use native.Mathlib.Nat.{add-assoc, mul-pos, mul-le-mul-left, div-mul-le-self, lt-div-mul-add}
 use native.Mathlib.Omega.{arith}
