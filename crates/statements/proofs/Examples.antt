@@ -9,41 +9,36 @@ use Rattle.decimal.specs.Decimal.{digits, decimal}
 use Rattle.table_text.specs.TableText.{precisionOf, field, line, lines, header, tableOf, tableText}
 use Rattle.statements.specs.Examples.{imageExamples, ImageHolds, reciprocalExamples, ReciprocalHolds, textExamples, TextHolds, Each, ExamplesHold}
 
+-- a row and those after it
+infixr 4 _also_
+_also_ : {A B : Type 0} → A → B → A × B
+a also b = (a, b)
+
 images-hold : Each ImageHolds imageExamples
 unfolding roundedUp wordAt lowest
-images-hold = (
-  record { answered = refl; built = refl; read = refl; passes = refl },
-  (record { answered = refl; built = refl; read = refl; passes = refl }, (record { answered = refl; built = refl; read = refl; passes = refl }, tt)),
-)
+images-hold =
+    record { answered = refl; built = refl; read = refl; passes = refl }
+    also record { answered = refl; built = refl; read = refl; passes = refl }
+    also record { answered = refl; built = refl; read = refl; passes = refl }
+    also tt
 
 reciprocals-hold : Each ReciprocalHolds reciprocalExamples
 unfolding roundedUp wordAt
-reciprocals-hold = (
-  record { is-R = refl; given = refl; is-P = tt },
-  (
-    record { is-R = refl; given = refl; is-P = tt },
-    (
-      record { is-R = refl; given = refl; is-P = (refl, tt) },
-      (
-        record { is-R = refl; given = refl; is-P = tt },
-        (
-          record { is-R = refl; given = refl; is-P = tt },
-          (
-            record { is-R = refl; given = refl; is-P = tt },
-            (
-              record { is-R = refl; given = refl; is-P = tt },
-              (record { is-R = refl; given = refl; is-P = tt }, (record { is-R = refl; given = refl; is-P = tt }, tt)),
-            ),
-          ),
-        ),
-      ),
-    ),
-  ),
-)
+reciprocals-hold =
+    record { is-R = refl; given = refl; is-P = tt }
+    also record { is-R = refl; given = refl; is-P = tt }
+    also record { is-R = refl; given = refl; is-P = refl also tt }
+    also record { is-R = refl; given = refl; is-P = tt }
+    also record { is-R = refl; given = refl; is-P = tt }
+    also record { is-R = refl; given = refl; is-P = tt }
+    also record { is-R = refl; given = refl; is-P = tt }
+    also record { is-R = refl; given = refl; is-P = tt }
+    also record { is-R = refl; given = refl; is-P = tt }
+    also tt
 
 texts-hold : Each TextHolds textExamples
 unfolding precisionOf digits decimal roundedUp field line lines header tableOf tableText
-texts-hold = (refl, (refl, (refl, tt)))
+texts-hold = refl also refl also refl also tt
 
 pub examples-hold : ExamplesHold
 examples-hold = record { images = images-hold; reciprocals = reciprocals-hold; texts = texts-hold }
