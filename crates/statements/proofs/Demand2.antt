@@ -7,6 +7,7 @@ use mathlib.Core.Path.{_≡_, refl}
 use mathlib.Core.Logic.{_↔_}
 use mathlib.Core.List.{List}
 use Prim.Native.Nat.{ℕ, _+_, _-_, _*_, _/_, _%_, _^_, _≤_, _<_}
+use native.Mathlib.Omega.{arith}
 use lib.ListN.{length, take, getD}
 use Rattle.precision.specs.Precision.{imageLength}
 use Rattle.units.specs.Units.{tableUnitsInOne, ulpsInOne}
@@ -30,6 +31,7 @@ use Rattle.statements.proofs.Built
 use Rattle.statements.proofs.Depends
 use Rattle.statements.proofs.Nodes
 use Rattle.statements.proofs.Reciprocals
+use Rattle.statements.proofs.Sizes
 
 -- The nodes (document 002, Algorithm 1), for every k.
 module _ (k : ℕ) where
@@ -108,6 +110,10 @@ module _ (k n X : ℕ) where
   pub step-R : R ≡ P / 2 ^ (k + 5)
   step-R = refl
 
+  -- so P lies on the line between both nodes
+  pub line-P : P ≡ c j * (2 ^ (k + 3) - f) + c (j + 1) * f
+  line-P = Sizes.on-the-line k t
+
   -- no difference falls below 0 where 2k + 3 ≤ n and X is normalised
   pub differences : 2 * k + 3 ≤ n → IsNormalised n X → (2 ^ k + j ≡ i) × (j < 2 ^ k) × (c (j + 1) ≤ c j) × ((c j - c (j + 1)) * f ≤ c j * 2 ^ (k + 3))
   differences = Reciprocals.whole k n X
@@ -166,6 +172,9 @@ module _ (k : ℕ) (s t : List ℕ) (l : IsLongEnough k s) (m : IsLongEnough k t
   -- the reciprocal's depends on the words of j and j + 1 alone, and where j + 1 is 2^k on that of j
   pub reciprocal-by-words : (n X : ℕ) → wordOf k s (j k n X) ≡ wordOf k t (j k n X) → (j k n X + 1 < 2 ^ k → wordOf k s (j k n X + 1) ≡ wordOf k t (j k n X + 1)) → reciprocalOutcome k s n X ≡ reciprocalOutcome k t n X
   reciprocal-by-words n X e = Depends.reciprocal-same k s t l m n X (λ h. e)
+
+  pub reciprocal-by-lower-word : (n X : ℕ) → j k n X + 1 ≡ 2 ^ k → wordOf k s (j k n X) ≡ wordOf k t (j k n X) → reciprocalOutcome k s n X ≡ reciprocalOutcome k t n X
+  reciprocal-by-lower-word n X last e = reciprocal-by-words n X e (λ h. absurd (omega (arith, h, last)))
 
 -- The reciprocal reads both words, whatever f is: a wrong one is named, the lower first.
 module _ (k : ℕ) (s : List ℕ) (n X : ℕ) (p : IsPrecision k) (l : IsLongEnough k s) (q : IsFractionCount k n) (o : IsNormalised n X) where

@@ -1,13 +1,14 @@
--- How large the numbers of Algorithm 2 are, for every k and t, and that they fit 64 bits where k is a precision.
+-- P between both nodes, how large the numbers of Algorithm 2 are, for every k and t, and that they fit 64 bits where k is a precision.
 -- Assumes nothing.
 use mathlib.Core.Path.{_≡_, sym, ap, _∙_}
 use Prim.Native.Nat.{ℕ, _+_, _-_, _*_, _^_, _≤_, _<_}
-use native.Mathlib.Nat.{sub-le, le-trans, lt-of-le-of-lt, lt-trans, mod-lt, mul-le-mul, mul-le-mul-right}
+use native.Mathlib.Nat.{le-of-lt, sub-le, le-trans, lt-of-le-of-lt, lt-trans, mod-lt, mul-le-mul, mul-le-mul-right}
 use native.Mathlib.Omega.{arith}
 use lib.Pow.{pow-add, pow-pos, pow-lt}
 use Rattle.nodes.specs.Nodes.{node}
 use Rattle.nodes.proofs.Nodes.{node-first, node-ordered, node-near}
 use Rattle.interpolation.specs.Algorithm.{nodeNumber, fraction, cutProductSum}
+use Rattle.interpolation.proofs.Table.{sum-parts}
 use Rattle.statements.specs.Terms.{IsPrecision}
 
 -- both factors of the product with the fraction
@@ -16,6 +17,11 @@ step-small k j = omega (arith, node-near k j, pow-pos (k + 3))
 
 pub fraction-small : (k t : ℕ) → fraction k t < 2 ^ (k + 3)
 fraction-small k t = mod-lt t (pow-pos (k + 3))
+
+-- P between both nodes
+pub on-the-line : (k t : ℕ) → cutProductSum k t ≡ node k (nodeNumber k t) * (2 ^ (k + 3) - fraction k t) + node k (nodeNumber k t + 1) * fraction k t
+on-the-line k t =
+    sum-parts (node k (nodeNumber k t)) (node k (nodeNumber k t + 1)) (2 ^ (k + 3)) (fraction k t) (node-ordered k (omega arith)) (le-of-lt (fraction-small k t))
 
 -- a product of powers
 joined : (a b e : ℕ) → a + b ≡ e → 2 ^ a * 2 ^ b ≡ 2 ^ e
