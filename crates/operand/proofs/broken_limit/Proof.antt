@@ -1,6 +1,7 @@
 -- `operand::broken_limit` meets its contract: n by its test, X by one shift.
 -- Assumes nothing.
 use mathlib.Core.Path.{refl, sym, _∙_}
+use Prim.Native.Nat.{_/_, _^_}
 use native.Mathlib.Omega.{arith}
 use borrow.Author.Needs.{needs}
 use borrow.Author.Tests.{eq-eqb, ne-eqb, not-true, not-false}
@@ -26,7 +27,7 @@ returns-2 c =
     let n = at .before .is-fraction-count in (
       rw (
         sym (n .ensures) ∙ not-false (n .result) (at .if1 .left),
-        normalised-high (a .n) (a .x) ∙ ne-eqb _ 1 (λ e. omega (arith, c .if2 .taken, c .before .high .ensures, e)),
+        normalised-high (a .n) (a .x) ∙ ne-eqb (a .x / 2 ^ a .n) 1 (λ e. omega (arith, c .if2 .taken, c .before .high .ensures, e)),
       ),
       refl,
     )
@@ -38,7 +39,7 @@ returns-3 c =
     let n = at .before .is-fraction-count in (
       rw (
         sym (n .ensures) ∙ not-false (n .result) (at .if1 .left),
-        normalised-high (a .n) (a .x) ∙ eq-eqb _ 1 (omega (arith, c .before .high .ensures, c .if2 .left)),
+        normalised-high (a .n) (a .x) ∙ eq-eqb (a .x / 2 ^ a .n) 1 (omega (arith, c .before .high .ensures, c .if2 .left)),
       ),
       refl,
     )
