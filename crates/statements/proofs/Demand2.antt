@@ -65,7 +65,8 @@ module _ (k : ℕ) where
   pub node-step : (j : ℕ) → j < 2 ^ k → node k (j + 1) < node k j
   node-step = node-falls k
 
--- The reciprocal (document 002, Algorithm 2), for every k, n and X: the definitions in the paper's letters, step by step.
+-- The reciprocal (document 002, Algorithm 2), for every k, n and X: the definitions by the paper's letters, and its steps. Further down
+-- `j k n X` and `f k n X` are j and f of an operand.
 module _ (k n X : ℕ) where
   abbrev t : ℕ
   t = cutOperand k n X
