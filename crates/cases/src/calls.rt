@@ -29,6 +29,19 @@ pub(crate) fn word(s: &[u8], k: u32, j: u32) {
     bytes(reading::word_bytes(Precision(k), s, j));
 }
 
+pub(crate) fn reciprocal(s: &[u8], k: u32, n: u32, x: u64) {
+    let given = inverting::reciprocal(Precision(k), s, n, x);
+    number(x);
+    answer(given.number, given.place, given.value.0);
+}
+
+// The reciprocals of an operand and of both its neighbours, modulo 2^64.
+pub(crate) fn around(s: &[u8], k: u32, n: u32, x: u64) {
+    reciprocal(s, k, n, std::num::wrapping_sub_u64(x, 1));
+    reciprocal(s, k, n, x);
+    reciprocal(s, k, n, std::num::wrapping_add_u64(x, 1));
+}
+
 // The value of node j by the rule alone, with no image.
 pub(crate) fn rule(k: u32, j: u32) {
     line(nodes::value(Precision(k), j).0);
