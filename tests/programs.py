@@ -125,15 +125,15 @@ def less_than_an_ulp():
 
 def bits_to_the_right():
     """Operands whose first 2k + 3 fraction bits are the same get the same answer from the same bytes, refusals included."""
-    answers, counts = {}, {}
+    found = {}
     for changed, k, n, x, *answer in reciprocals(run("cases", [script()])):
         if reference.in_range(k) and 2 * k + 3 <= n <= 63:
-            bits = (changed, k, x >> n - 2 * k - 3)
-            if answers.setdefault(bits, answer) != answer:
-                return f"precision {k}, {x} with {n} fraction bits: {answer}; with others to their right {answers[bits]}"
-            counts.setdefault((bits, answer[0]), set()).add(n)
-    numbers = {number: sum(len(lengths) > 1 for (_, other), lengths in counts.items() if other == number) for number in (0, 5, 6)}
-    return None if min(numbers.values()) > 0 else f"operands of several lengths, by the answer's number: {numbers}"
+            found.setdefault((changed, k, x >> n - 2 * k - 3), {}).setdefault(tuple(answer), set()).add(n)
+    for (_, k, bits), answers in found.items():
+        if len(answers) > 1:
+            return f"precision {k}, operands that begin with the bits {bits:b}: {answers}"
+    several = {answer[0] for answers in found.values() for answer, lengths in answers.items() if len(lengths) > 1}
+    return None if several == {0, 5, 6} else f"operands of several lengths get only the numbers {several}"
 
 
 # ---- what the documents say
