@@ -1,23 +1,20 @@
 -- What the limits of k and the buffer mean for every list of refusals that begins with them.
 -- Assumes nothing.
 use mathlib.Core.Path.{_≡_, refl}
-use mathlib.Core.Bool.{Bool, true, false, cond, not, _||_, true≢false}
+use mathlib.Core.Bool.{Bool, true, false, not, _||_, true≢false}
 use mathlib.Core.List.{List, _∷_}
 use Prim.Native.Nat.{ℕ, _+_, _*_, _^_, _≤_}
 use native.Mathlib.Omega.{arith}
 use lib.Dec.{ltb}
 use lib.ListN.{length}
-use borrow.Author.Tests.{ltb-false, le-ltb}
+use borrow.Author.Tests.{ltb-false, le-ltb, not-false}
 use Rattle.precision.specs.Precision.{inRange, imageLength, wordsOr0}
 use Rattle.precision.proofs.Range.{in-range, range-in, words-in-range}
 use Rattle.nodes.specs.Nodes.{numeratorOr0, leadOr0}
-use Rattle.answers.specs.Refusal.{Refusal, Outcome, outcome}
+use Rattle.answers.specs.Refusal.{Refusal, outcome}
+use Rattle.answers.proofs.Pair.{numberOf, limited, pair-refuses, pair-passes, pair-none}
 use Rattle.image.specs.Refusals.{precisionRefusal, bufferRefusal, brokenLimit}
 use Rattle.image.specs.Calls.{noImage}
-
--- the answer that a broken limit of number n gives
-abbrev pub limited : ℕ → Outcome
-limited n = record { number = n; place = 0; value = 0 }
 
 -- both limits are kept: k is a precision and the buffer is long enough
 pub record Kept (k : ℕ) (s : List ℕ) : Type 0 where
@@ -28,33 +25,13 @@ pub record Kept (k : ℕ) (s : List ℕ) : Type 0 where
   pub numerator : numeratorOr0 k ≡ 2 ^ (3 * k + 3)
   pub lead : leadOr0 k ≡ 2 ^ (2 * k + 2)
 
--- by the tests of the two limits
-abbrev numberOf : Bool → Bool → ℕ
-numberOf a b = cond a 1 (cond b 2 0)
-
-answer-of : (a b : Bool) (rs : List Refusal) (v : ℕ) → (numberOf a b ≡ 0 → ⊥)
-    → outcome (record { applies = a; number = 1; place = 0 } ∷ record { applies = b; number = 2; place = 0 } ∷ rs) v ≡ limited (numberOf a b)
-answer-of true b rs v h = refl
-answer-of false true rs v h = refl
-answer-of false false rs v h = absurd (h refl)
-
-rest-of : (a b : Bool) (rs : List Refusal) (v : ℕ) → numberOf a b ≡ 0
-    → outcome (record { applies = a; number = 1; place = 0 } ∷ record { applies = b; number = 2; place = 0 } ∷ rs) v ≡ outcome rs v
-rest-of true b rs v h = absurd (omega (arith, h))
-rest-of false true rs v h = absurd (omega (arith, h))
-rest-of false false rs v h = refl
-
-broken-of : (a b : Bool) → (numberOf a b ≡ 0 → ⊥) → (a || b) ≡ true
+-- the same by the tests of the two limits
+broken-of : (a b : Bool) → (numberOf 1 2 a b ≡ 0 → ⊥) → (a || b) ≡ true
 broken-of true b h = refl
 broken-of false true h = refl
 broken-of false false h = absurd (h refl)
 
-kept-of : (r b : Bool) → numberOf (not r) b ≡ 0 → (r ≡ true) × (b ≡ false)
-kept-of false b h = absurd (omega (arith, h))
-kept-of true true h = absurd (omega (arith, h))
-kept-of true false h = (refl, refl)
-
-none-of : (r b : Bool) → (not r || b) ≡ false → numberOf (not r) b ≡ 0
+none-of : (r b : Bool) → (not r || b) ≡ false → numberOf 1 2 (not r) b ≡ 0
 none-of true true e = absurd (true≢false e)
 none-of true false e = refl
 none-of false b e = absurd (true≢false e)
@@ -62,18 +39,24 @@ none-of false b e = absurd (true≢false e)
 module _ (k : ℕ) (s : List ℕ) where
   -- a broken limit turns every call back
   pub limit-refuses : (rs : List Refusal) (v : ℕ) → (brokenLimit k (length s) ≡ 0 → ⊥) → outcome (precisionRefusal k ∷ bufferRefusal k s ∷ rs) v ≡ limited (brokenLimit k (length s))
-  limit-refuses rs v = answer-of (not (inRange k)) (ltb (length s) (imageLength k)) rs v
+  limit-refuses rs v = pair-refuses 1 2 (not (inRange k)) (ltb (length s) (imageLength k)) rs v
 
   pub limit-no-image : (brokenLimit k (length s) ≡ 0 → ⊥) → noImage k s ≡ true
   limit-no-image = broken-of (not (inRange k)) (ltb (length s) (imageLength k))
 
   -- where both are kept the later refusals decide
   pub limit-passes : (rs : List Refusal) (v : ℕ) → brokenLimit k (length s) ≡ 0 → outcome (precisionRefusal k ∷ bufferRefusal k s ∷ rs) v ≡ outcome rs v
-  limit-passes rs v = rest-of (not (inRange k)) (ltb (length s) (imageLength k)) rs v
+  limit-passes rs v = pair-passes 1 2 (omega arith) (omega arith) (not (inRange k)) (ltb (length s) (imageLength k)) rs v
+
+  -- and the tests have failed
+  kept : brokenLimit k (length s) ≡ 0 → (inRange k ≡ true) × (ltb (length s) (imageLength k) ≡ false)
+  kept h =
+      let e = pair-none 1 2 (omega arith) (omega arith) (not (inRange k)) (ltb (length s) (imageLength k)) h in
+      (not-false (inRange k) (e .0), e .1)
 
   pub limit-kept : brokenLimit k (length s) ≡ 0 → Kept k s
   limit-kept h =
-      let e = kept-of (inRange k) (ltb (length s) (imageLength k)) h in
+      let e = kept h in
       record {
         low = in-range k (e .0) .0;
         high = in-range k (e .0) .1;
@@ -84,7 +67,7 @@ module _ (k : ℕ) (s : List ℕ) where
       }
 
   pub limit-image : brokenLimit k (length s) ≡ 0 → noImage k s ≡ false
-  limit-image h = let e = kept-of (inRange k) (ltb (length s) (imageLength k)) h in rw (e .0, e .1)
+  limit-image h = let e = kept h in rw (e .0, e .1)
 
   -- a precision and a long enough buffer keep both limits
   pub limit-none : 1 ≤ k → k ≤ 12 → imageLength k ≤ length s → brokenLimit k (length s) ≡ 0

@@ -3,7 +3,7 @@ ghost use mathlib.Core.Path.{_≡_};
 ghost use Rattle.answers.specs.Answer.{reciprocalGiven};
 ghost use Rattle.interpolation.specs.Algorithm.{productSum, chopped};
 ghost use Rattle.interpolation.specs.Calls.{cutOutcome, reciprocalOutcome};
-ghost use Rattle.inverting.specs.Cut.{IsCut, IsPiece};
+ghost use Rattle.inverting.specs.Cut.{IsCut, IsPiece, judgedNode};
 use answers::ReciprocalGiven;
 use precision::Precision;
 use units::TableUnits;
@@ -18,8 +18,25 @@ fn interpolated(k: Precision, c: TableUnits, d: TableUnits, f: u64) -> Ulps
     Ulps(bits::high(sum, k.0 + 5))
 }
 
-// The reciprocal of a cut operand t, where k and the image keep their limits. The words of both ends of its piece are judged, the
-// lower one first; at the last piece the upper node is implied.
+// What the word of node j stands for, and 0 where it is wrong; node `count` has no word and is the leading one.
+fn judged_node(
+    image: &[u8],
+    width: u32,
+    numerator: u64,
+    count: u32,
+    lead: u32,
+    j: u32,
+) -> TableUnits
+    ensures { λ r. ⌜ r .0 ≡ judgedNode (now (image .entry)) width numerator count lead j ⌝ }
+{
+    if j == count {
+        return TableUnits(lead as u64);
+    }
+    image::judged_word(image, width, numerator, count, lead, j)
+}
+
+// The reciprocal of a cut operand t, where k and the image keep their limits. The words at both ends of its piece are judged, the
+// lower one first; at the end of the last piece the node is implied.
 fn of_cut(k: Precision, image: &[u8], t: u64) -> ReciprocalGiven
     requires { ⌜ IsCut (k .0) (now image) t ⌝ }
     ensures { λ r. ⌜ r ≡ reciprocalGiven (cutOutcome (k .0) (now (image .entry)) t) ⌝ }
@@ -38,23 +55,19 @@ fn of_cut(k: Precision, image: &[u8], t: u64) -> ReciprocalGiven
             value: Ulps(0),
         };
     }
-    let next = j + 1;
-    let d = if next == count {
-        TableUnits(lead as u64)
-    } else {
-        image::judged_word(image, width, numerator, count, lead, next)
-    };
+    let d = judged_node(image, width, numerator, count, lead, j + 1);
     if d.0 == 0 {
         return ReciprocalGiven {
             number: 6,
-            place: next as u64,
+            place: j as u64 + 1,
             value: Ulps(0),
         };
     }
+    let f = bits::low(t, piece);
     ReciprocalGiven {
         number: 0,
         place: 0,
-        value: interpolated(k, c, d, bits::low(t, piece)),
+        value: interpolated(k, c, d, f),
     }
 }
 

@@ -1,7 +1,7 @@
 -- The refusals of an operand, each a definition of its own (document 01, "Turned back, in checking order").
 -- Assumes nothing.
 use Prim.Native.Nat.{ℕ}
-use mathlib.Core.Bool.{Bool, cond, not}
+use mathlib.Core.Bool.{cond, not}
 use Rattle.answers.specs.Refusal.{Refusal}
 use Rattle.operand.specs.Operand.{isFractionCount, isNormalised}
 

@@ -1,0 +1,101 @@
+-- `inverting::reciprocal` meets its contract: the limits of k and the image, those of n and X, and then the cut operand.
+-- Assumes nothing.
+use mathlib.Core.Path.{_≡_, sym, ap, _∙_}
+use mathlib.Core.List.{List, _∷_}
+use Prim.Native.Nat.{ℕ, _+_, _*_}
+use native.Mathlib.Omega.{arith}
+use lib.ListN.{length}
+use lib.Pow.{pow-add}
+use borrow.Author.Needs.{needs}
+use Rattle.answers.specs.Answer.{reciprocalGiven}
+use Rattle.image.specs.Refusals.{brokenLimit}
+use Rattle.image.proofs.Limits as image
+use Rattle.image.proofs.Limits.{limit-refuses, limit-passes, limit-kept}
+use Rattle.operand.specs.Operand.{cutOperand}
+use Rattle.operand.specs.Refusals.{brokenOperand, fractionRefusal, operandRefusal}
+use Rattle.operand.proofs.Laws.{cut-range}
+use Rattle.operand.proofs.Limits as operand
+use Rattle.operand.proofs.Limits.{operand-refuses, operand-passes, operand-kept}
+use Rattle.interpolation.specs.Reciprocal.{readReciprocal}
+use Rattle.interpolation.specs.Calls.{cutRefusals, cutOutcome}
+use Rattle.inverting.specs.Cut.{IsCut}
+use Rattle.inverting.proofs.reciprocal.Statement.{statement}
+use Rattle.inverting.proofs.reciprocal.Tie as tie
+
+-- behind the first test k and the image keep their limits
+limit : (c : tie.Else1) → brokenLimit (c .before .before .before .args .k .0) (length (c .before .before .before .args .image .now)) ≡ 0
+limit c = sym (c .before .broken-limit .ensures) ∙ c .if1 .left
+
+-- behind the second n and X keep theirs
+limit-2 : (c : tie.Else2) → brokenOperand (c .before .before .before .before .before .args .k .0) (c .before .before .before .before .before .args .n) (c .before .before .before .before .before .args .x) ≡ 0
+limit-2 c = sym (c .before .broken-limit2 .ensures .0) ∙ c .if2 .left
+
+-- an operand that keeps them is cut to one of 2k + 3 fraction bits
+cut-is : (k : ℕ) (s : List ℕ) (n X : ℕ) → image.Kept k s → operand.Kept k n X → IsCut k s (cutOperand k n X)
+cut-is k s n X a b =
+    let r = cut-range (2 * k + 3) n (b .enough) X (b .least) (b .below) in
+    record { low = a .low; high = a .high; long = a .long; least = r .0; most = omega (arith, r .1, pow-add 2 (2 * k + 3) 1, pow-add 2 (2 * k) 4, pow-add 2 (2 * k) 3) }
+
+broken-limit-requires : tie.Need-broken-limit-requires
+broken-limit-requires c κs = search needs
+
+returns : tie.Need-returns
+returns c =
+    let a = c .before .before .before .args in
+    let k = a .k .0 in
+    let s = a .image .now in
+    let p = c .before .broken-limit .ensures in
+    rw p
+    (ap reciprocalGiven
+    (sym (limit-refuses k s (fractionRefusal k (a .n) ∷ operandRefusal (a .n) (a .x) ∷ cutRefusals k s (cutOperand k (a .n) (a .x))) (readReciprocal k s (cutOperand k (a .n) (a .x)))
+    (λ e. c .if1 .taken (p ∙ e)))))
+
+broken-limit-requires-2 : tie.Need-broken-limit-requires-2
+broken-limit-requires-2 c κs = search needs
+
+returns-2 : tie.Need-returns-2
+returns-2 c =
+    let a = c .before .before .before .before .before .args in
+    let k = a .k .0 in
+    let s = a .image .now in
+    let t = cutOperand k (a .n) (a .x) in
+    let p = c .before .broken-limit2 .ensures .0 in
+    rw p
+    (ap reciprocalGiven
+    (sym (limit-passes k s (fractionRefusal k (a .n) ∷ operandRefusal (a .n) (a .x) ∷ cutRefusals k s t) (readReciprocal k s t) (limit (c .before .before))
+    ∙ operand-refuses k (a .n) (a .x) (cutRefusals k s t) (readReciprocal k s t) (λ e. c .if2 .taken (p ∙ e)))))
+
+cut-requires : tie.Need-cut-requires
+cut-requires c κs = search needs
+
+of-cut-requires : tie.Need-of-cut-requires
+of-cut-requires c κs =
+    let a = c .before .before .before .before .before .before .args in
+    let k = a .k .0 in
+    let s = a .image .now in
+    rw (c .cut .ensures)
+    (cut-is k s (a .n) (a .x) (limit-kept k s (limit (c .before .before .before))) (operand-kept k (a .n) (a .x) (limit-2 (c .before))))
+
+returns-3 : tie.Need-returns-3
+returns-3 c =
+    let a = c .before .before .before .before .before .before .before .args in
+    let k = a .k .0 in
+    let s = a .image .now in
+    let t = cutOperand k (a .n) (a .x) in
+    c .of-cut .ensures
+    ∙ ap (λ (x : ℕ). reciprocalGiven (cutOutcome k s x)) (c .before .cut .ensures)
+    ∙ ap reciprocalGiven
+    (sym (limit-passes k s (fractionRefusal k (a .n) ∷ operandRefusal (a .n) (a .x) ∷ cutRefusals k s t) (readReciprocal k s t) (limit (c .before .before .before .before))
+    ∙ operand-passes k (a .n) (a .x) (cutRefusals k s t) (readReciprocal k s t) (limit-2 (c .before .before))))
+
+pub reciprocal-spec : {M : Type 1} → statement M
+reciprocal-spec =
+    tie.close
+    (tie.spec
+    broken-limit-requires
+    returns
+    broken-limit-requires-2
+    returns-2
+    cut-requires
+    of-cut-requires
+    returns-3)
