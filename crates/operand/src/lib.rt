@@ -1,6 +1,6 @@
 // An operand X with n fraction bits: the limits that it must keep, and how it is cut for the table.
 ghost use mathlib.Core.Path.{_≡_};
-ghost use Rattle.operand.specs.Operand.{cutBits, cutOperand, mostBits};
+ghost use Rattle.operand.specs.Operand.{cutBits, cutOperand, isFractionCount, mostBits};
 ghost use Rattle.operand.specs.Refusals.{brokenOperand};
 use precision::Precision;
 
@@ -14,15 +14,22 @@ fn cut_bits(k: Precision) -> u64
     2 * (k.0 as u64) + 3
 }
 
+// Whether n is a number of fraction bits that the call serves: from 2k + 3 to MOST_BITS.
+fn is_fraction_count(k: Precision, n: u32) -> bool
+    ensures { λ r. ⌜ r ≡ isFractionCount (k .0) n ⌝ }
+{
+    if (n as u64) < cut_bits(k) {
+        return false;
+    }
+    n <= MOST_BITS
+}
+
 // The number of the limit that n and x break at precision k, 4 or 5, and 0 where both are kept.
 pub fn broken_limit(k: Precision, n: u32, x: u64) -> u32
     ensures { λ r. ⌜ r ≡ brokenOperand (k .0) n x ⌝ }
     ensures { λ r. do ⌜ (← ⟦MOST_BITS⟧ .entry) ≡ mostBits ⌝ }
 {
-    if (n as u64) < cut_bits(k) {
-        return 4;
-    }
-    if MOST_BITS < n {
+    if !is_fraction_count(k, n) {
         return 4;
     }
     if bits::high(x, n) != 1 {

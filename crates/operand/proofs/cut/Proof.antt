@@ -17,7 +17,7 @@ returns c =
     sym (ap (λ (e : ℕ). a .x / 2 ^ e) {x = a .n - (2 * a .k .0 + 3)} {y = 0} (omega (arith, c .before .cut-bits .ensures, c .if1 .taken)) ∙ div-one (a .x))
 
 sub-high : tie.Need-sub-high
-sub-high c = omega (arith, c .if1 .left)
+sub-high c = omega (arith, c .before .cut-bits .ensures, c .if1 .left)
 
 cast-high : tie.Need-cast-high
 cast-high c = search needs
