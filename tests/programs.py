@@ -75,7 +75,7 @@ def random_line(rng):
     to = min(first + rng.randint(0, 5), 2 ** 32 - 1)
     size = reference.LENGTHS[k - 1] if reference.in_range(k) else 4
     kind = rng.choice(["hex", "hex", "image", "image", "xor", "xor", "length", "length", "fill", "build", "check", "check", "node",
-                       "node", "word", "rule", "precision", "show", "invert", "invert", "around", "served", "served", "served"])
+                       "node", "word", "rule", "precision", "show", "kept", "invert", "around", "through", "served", "served", "served"])
     return {
         "hex": "hex " + " ".join(f"{rng.randrange(256):02X}" for _ in range(rng.randint(1, 9))),
         "image": f"length {size}\nbuild {k}",
@@ -89,8 +89,10 @@ def random_line(rng):
         "rule": f"rule {first} {to} {k}",
         "precision": f"precision {k}",
         "show": "show",
+        "kept": f"kept {first} {to} {k}",
         "invert": f"invert {random_operands(rng, k)}",
         "around": f"around {random_operands(rng, k)}",
+        "through": f"through {random_operands(rng, k)}",
         "served": f"length {size}\nbuild {k}\ninvert {random_operands(rng, k)}",
     }[kind]
 
@@ -108,7 +110,7 @@ def reciprocals(output):
     for at, line in enumerate(output.decode().splitlines()):
         word, *rest = line.split(" ")
         if word:
-            numbers = rest[:2] if word in ("invert", "around") else None
+            numbers = rest[:2] if word in ("invert", "around", "through") else None
             changed = at if word in ("hex", "fill", "xor", "length", "build") else changed
         elif numbers:
             yield (changed, *map(int, numbers), *map(int, rest))
@@ -134,6 +136,16 @@ def bits_to_the_right():
             return f"precision {k}, operands that begin with the bits {bits:b}: {answers}"
     several = {answer[0] for answers in found.values() for answer, lengths in answers.items() if len(lengths) > 1}
     return None if several == {0, 5, 6} else f"operands of several lengths get only the numbers {several}"
+
+
+def bound_table():
+    """Each call through a bound table stands below the same plain call, and is answered as that one was."""
+    plain_call = {"kept": "node", "through": "invert"}
+    asked = re.split(r"\n(?! )", run("cases", [script()]).decode())
+    bound = [(plain, *each.split(" ", 1)) for plain, each in zip(asked, asked[1:]) if each.split(" ", 1)[0] in plain_call]
+    wrong = [plain for plain, word, rest in bound if plain != f"{plain_call[word]} {rest}"]
+    words = {word for _, word, _ in bound}
+    return f"other than {wrong[0]}" if wrong else None if words == set(plain_call) else f"asked were only {words}"
 
 
 # ---- what the documents say
@@ -351,6 +363,7 @@ def tests():
         yield f"cases: 400 random lines, seed {seed}", lambda seed=seed: random_scripts(seed)
     yield "cases: each reciprocal given is less than an ulp off", less_than_an_ulp
     yield "cases: bits to the right of an operand change no answer", bits_to_the_right
+    yield "cases: a bound table gives what the plain calls give", bound_table
     yield "Table 1 of document 002: the reference", table1_reference
     yield "Table 1 of document 002: the program", table1_program
     yield "Table 2 of document 002: the reference", table2_reference

@@ -13,12 +13,14 @@
 // printed: the number, and the numbers that the call answered.
 //     precision FIRST LAST, check FIRST LAST (precisions)
 //     node FIRST LAST K, word FIRST LAST K, rule FIRST LAST K, eight FIRST LAST (nodes; `eight` has those of precision 8)
+//     kept FIRST LAST K (the same as `node`, through a bound table)
 // One call is made with a single number, and its answer is printed alone:
 //     build K
 // A call is made with COUNT operands of N fraction bits, or with one where there is no COUNT. The first is X, and each other is STEP
 // above the one before it, modulo 2^64. Each time a line is printed: the operand, and the numbers that the call answered.
 //     invert K N X COUNT STEP
 //     around K N X COUNT STEP (the same with both neighbours of each operand: one less, itself, one more)
+//     through K N X COUNT STEP (the same as `invert`, through a bound table)
 // Any other line, such as one that begins with '#', is printed alone.
 mod buffers;
 mod calls;
@@ -89,8 +91,8 @@ fn call(s: &mut [u8], line: &[u8]) {
     match script::at(line, 0) {
         b'b' => calls::build(s, script::number(line, 0)),
         b's' => print::bytes(s),
-        b'p' | b'c' | b'n' | b'w' | b'r' | b'e' => from(s, line),
-        b'i' | b'a' => operands(s, line),
+        b'p' | b'c' | b'n' | b'k' | b'w' | b'r' | b'e' => from(s, line),
+        b'i' | b'a' | b't' => operands(s, line),
         _ => {}
     }
 }
@@ -112,6 +114,7 @@ fn one(s: &[u8], line: &[u8], j: u32) {
         b'p' => calls::precision(j),
         b'c' => calls::check(s, j),
         b'n' => calls::node(s, k, j),
+        b'k' => calls::bound_node(s, k, j),
         b'w' => calls::word(s, k, j),
         b'r' => calls::rule(k, j),
         _ => calls::eight(j),
@@ -135,6 +138,7 @@ fn operand(s: &[u8], line: &[u8], x: u64) {
     let n = script::number(line, 1);
     match script::at(line, 0) {
         b'a' => calls::around(s, k, n, x),
+        b't' => calls::bound_reciprocal(s, k, n, x),
         _ => calls::reciprocal(s, k, n, x),
     }
 }
