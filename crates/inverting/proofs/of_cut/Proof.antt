@@ -111,14 +111,14 @@ returns c =
     ap (λ (p : ℕ). reciprocalGiven (record { number = 6; place = p; value = 0 })) (number (at .before))
     ∙ ap reciprocalGiven
     (sym (first-wrong (s .args .k .0) (s .args .image .now) (s .args .t)
-    (nodes.word-wrong (s .args .k .0) (s .args .image .now) j (kept s) (below s) (sym (lower at) ∙ c .if1 .taken))))
+    (nodes.word-wrong (s .args .k .0) (s .args .image .now) j (kept s) (below s) (omega (arith, lower at, c .if1 .taken)))))
 
 -- behind the first test its word is right, and it is the node
 lower-right : (c : tie.Else1) → ((ltb (nodeNumber (start (c .before .before .before) .args .k .0) (start (c .before .before .before) .args .t)) (2 ^ start (c .before .before .before) .args .k .0) && isWrong (start (c .before .before .before) .args .k .0) (start (c .before .before .before) .args .image .now) (nodeNumber (start (c .before .before .before) .args .k .0) (start (c .before .before .before) .args .t))) ≡ false) × (c .before .before .judged-word .result .0 ≡ nodeOf (start (c .before .before .before) .args .k .0) (start (c .before .before .before) .args .image .now) (nodeNumber (start (c .before .before .before) .args .k .0) (start (c .before .before .before) .args .t)))
 lower-right c =
     let at = c .before .before in
     let s = start (at .before) in
-    let r = nodes.word-right (s .args .k .0) (s .args .image .now) (nodeNumber (s .args .k .0) (s .args .t)) (kept s) (below s) (λ e. c .if1 .left (lower at ∙ e)) in
+    let r = nodes.word-right (s .args .k .0) (s .args .image .now) (nodeNumber (s .args .k .0) (s .args .t)) (kept s) (below s) (λ e. omega (arith, c .if1 .left, lower at, e)) in
     (r .0, lower at ∙ r .1)
 
 add-judged-node : tie.Need-add-judged-node
@@ -155,7 +155,7 @@ returns-2 c =
     ap (λ (p : ℕ). reciprocalGiven (record { number = 6; place = p + 1; value = 0 })) (number at)
     ∙ ap reciprocalGiven
     (sym (next-wrong (s .args .k .0) (s .args .image .now) (s .args .t) (lower-right (there .before) .0)
-    (nodes.node-wrong (s .args .k .0) (s .args .image .now) (j + 1) (kept s) (omega (arith, below s)) (sym (upper there) ∙ c .if2 .taken))))
+    (nodes.node-wrong (s .args .k .0) (s .args .image .now) (j + 1) (kept s) (omega (arith, below s)) (omega (arith, upper there, c .if2 .taken)))))
 
 -- behind the second test so is the upper one
 upper-right : (c : tie.Else2) → ((ltb (nodeNumber (start (c .before .before .before .before .before .before) .args .k .0) (start (c .before .before .before .before .before .before) .args .t) + 1) (2 ^ start (c .before .before .before .before .before .before) .args .k .0) && isWrong (start (c .before .before .before .before .before .before) .args .k .0) (start (c .before .before .before .before .before .before) .args .image .now) (nodeNumber (start (c .before .before .before .before .before .before) .args .k .0) (start (c .before .before .before .before .before .before) .args .t) + 1)) ≡ false) × (c .before .before .judged-node .result .0 ≡ nodeOf (start (c .before .before .before .before .before .before) .args .k .0) (start (c .before .before .before .before .before .before) .args .image .now) (nodeNumber (start (c .before .before .before .before .before .before) .args .k .0) (start (c .before .before .before .before .before .before) .args .t) + 1))
@@ -163,7 +163,7 @@ upper-right c =
     let at = c .before .before in
     let s = start (at .before .before .before .before) in
     let j = nodeNumber (s .args .k .0) (s .args .t) in
-    let r = nodes.node-right (s .args .k .0) (s .args .image .now) (j + 1) (kept s) (omega (arith, below s)) (λ e. c .if2 .left (upper at ∙ e)) in
+    let r = nodes.node-right (s .args .k .0) (s .args .image .now) (j + 1) (kept s) (omega (arith, below s)) (λ e. omega (arith, c .if2 .left, upper at, e)) in
     (r .0, upper at ∙ r .1)
 
 low-requires : tie.Need-low-requires
@@ -181,10 +181,12 @@ interpolated-requires c κs =
     let next = upper-right there in
     let c-node = first .1 ∙ node-right k (s .args .image .now) j (le-of-lt (below s)) (first .0) in
     let d-node = next .1 ∙ node-right k (s .args .image .now) (j + 1) (omega (arith, below s)) (next .0) in
+    let most = cut-node-most k t (s .pre .least) (s .pre .most) in
+    let falls = cut-node-falls k t (s .pre .least) (s .pre .most) in
     record {
       high = s .pre .high;
-      first = omega (arith, c-node, cut-node-most k t (s .pre .least) (s .pre .most));
-      falls = omega (arith, c-node, d-node, cut-node-falls k t (s .pre .least) (s .pre .most));
+      first = omega (arith, c-node, d-node, most, falls);
+      falls = omega (arith, c-node, d-node, falls);
       inside = omega (arith, c .low .ensures, cut-fraction-below k t (s .pre .least) (s .pre .most));
     }
 
