@@ -140,12 +140,16 @@ def bits_to_the_right():
 
 def bound_table():
     """Each call through a bound table stands below the same plain call, and is answered as that one was."""
-    plain_call = {"kept": "node", "through": "invert"}
+    plain = {"kept": "node", "through": "invert"}
     asked = re.split(r"\n(?! )", run("cases", [script()]).decode())
-    bound = [(plain, *each.split(" ", 1)) for plain, each in zip(asked, asked[1:]) if each.split(" ", 1)[0] in plain_call]
-    wrong = [plain for plain, word, rest in bound if plain != f"{plain_call[word]} {rest}"]
-    words = {word for _, word, _ in bound}
-    return f"other than {wrong[0]}" if wrong else None if words == set(plain_call) else f"asked were only {words}"
+    seen = set()
+    for above, each in zip(asked, asked[1:]):
+        word, _, rest = each.partition(" ")
+        if word in plain:
+            seen.add(word)
+            if above != f"{plain[word]} {rest}":
+                return f"{each}, below {above}"
+    return None if seen == set(plain) else f"asked were only {seen}"
 
 
 # ---- what the documents say
@@ -181,12 +185,13 @@ def document_examples():
 
 
 def document_cases(output):
-    """tests/document01.txt has the cases of document 01 for reciprocals, in its words, as `cases` prints them. The answers in it were
-    written down from the document. All of it must stand in what is printed."""
-    said = (ROOT / "tests" / "document01.txt").read_text()
-    cases = re.split(r"\n(?=#)", said.strip("\n"))
-    missing = next((case for case in cases if case + "\n" not in output), None)
-    return f"not printed: {missing}" if missing else None if said in output and len(cases) > 30 else "the cases stand apart, or are few"
+    """tests/document01.txt has the cases of document 01 for reciprocals, in its words, as `cases` must print them. The answers in it
+    were written down from the document. Each must be printed as it stands there."""
+    cases = re.split(r"\n(?=#)", (ROOT / "tests" / "document01.txt").read_text().strip("\n"))
+    missing = [case for case in cases if case + "\n" not in output]
+    if missing:
+        return f"not printed: {missing[0]}"
+    return None if len(cases) > 30 else f"there are only {len(cases)} cases"
 
 
 def document_cases_reference():
