@@ -4,6 +4,7 @@ import random
 import re
 import subprocess
 import time
+from fractions import Fraction
 
 import reference
 
@@ -55,6 +56,17 @@ def printed_output():
     return same(run("cases", [script()]), reference.cases(script()).encode())
 
 
+def random_operands(rng, k):
+    """The numbers of a line of operands: often near a node, often with fraction bits that can be served."""
+    n = min(rng.choice([2 * k + 2, 2 * k + 3, 2 * k + 3, 2 * k + 4, 31, 32, 52, 62, 63, 63, 64, rng.randrange(70)]), 2 ** 32 - 1)
+    least = 2 ** min(n, 64)
+    piece = least // 2 ** min(k, 12)
+    node = least + piece * rng.randint(0, 2 ** min(k, 12))
+    x = rng.choice([node - 1, node, node + 1, least + rng.randrange(least), least + rng.randrange(least), rng.getrandbits(64)])
+    step = rng.choice([1, piece, piece // 2 + 1, rng.getrandbits(64)])
+    return f"{k} {n} {x % 2 ** 64} {rng.randint(0, 6)} {step % 2 ** 64}"
+
+
 def random_line(rng):
     """A line of a script, or two: mostly small precisions, often an image, often slightly damaged, at any length."""
     k = rng.choice([0, 1, 1, 2, 2, 2, 3, 3, 4, 5, 6, 8, 12, 13, 4294967295])
@@ -63,7 +75,7 @@ def random_line(rng):
     to = min(first + rng.randint(0, 5), 2 ** 32 - 1)
     size = reference.LENGTHS[k - 1] if reference.in_range(k) else 4
     kind = rng.choice(["hex", "hex", "image", "image", "xor", "xor", "length", "length", "fill", "build", "check", "check", "node",
-                       "node", "word", "rule", "precision", "show"])
+                       "node", "word", "rule", "precision", "show", "kept", "invert", "around", "through", "served", "served", "served"])
     return {
         "hex": "hex " + " ".join(f"{rng.randrange(256):02X}" for _ in range(rng.randint(1, 9))),
         "image": f"length {size}\nbuild {k}",
@@ -77,6 +89,11 @@ def random_line(rng):
         "rule": f"rule {first} {to} {k}",
         "precision": f"precision {k}",
         "show": "show",
+        "kept": f"kept {first} {to} {k}",
+        "invert": f"invert {random_operands(rng, k)}",
+        "around": f"around {random_operands(rng, k)}",
+        "through": f"through {random_operands(rng, k)}",
+        "served": f"length {size}\nbuild {k}\ninvert {random_operands(rng, k)}",
     }[kind]
 
 
@@ -86,10 +103,59 @@ def random_scripts(seed):
     return same(run("cases", [text]), reference.cases(text).encode())
 
 
+def reciprocals(output):
+    """Each answer of a reciprocal that `cases` printed: the line that last changed the lent bytes, K, N, the operand, its number, its
+    place and its value."""
+    changed, numbers = 0, None
+    for at, line in enumerate(output.decode().splitlines()):
+        word, *rest = line.split(" ")
+        if word:
+            numbers = rest[:2] if word in ("invert", "around", "through") else None
+            changed = at if word in ("hex", "fill", "xor", "length", "build") else changed
+        elif numbers:
+            yield (changed, *map(int, numbers), *map(int, rest))
+
+
+def less_than_an_ulp():
+    """Each reciprocal that the program gives, and there are many, is less than an ulp from the exact one."""
+    given = [(k, n, x, value) for _, k, n, x, number, _, value in reciprocals(run("cases", [script()])) if number == 0]
+    for k, n, x, value in given:
+        if abs(Fraction(value, 2 ** (2 * k + 1)) - Fraction(2 ** n, x)) >= Fraction(1, 2 ** (2 * k + 1)):
+            return f"precision {k}, {x} with {n} fraction bits: {value}"
+    return None if len(given) > 5000 else f"only {len(given)} are given"
+
+
+def bits_to_the_right():
+    """Operands whose first 2k + 3 fraction bits are the same get the same answer from the same bytes, refusals included."""
+    found = {}
+    for changed, k, n, x, *answer in reciprocals(run("cases", [script()])):
+        if reference.in_range(k) and 2 * k + 3 <= n <= 63:
+            found.setdefault((changed, k, x >> n - 2 * k - 3), {}).setdefault(tuple(answer), set()).add(n)
+    for (_, k, bits), answers in found.items():
+        if len(answers) > 1:
+            return f"precision {k}, operands that begin with the bits {bits:b}: {answers}"
+    several = {answer[0] for answers in found.values() for answer, lengths in answers.items() if len(lengths) > 1}
+    return None if several == {0, 5, 6} else f"operands of several lengths get only the numbers {several}"
+
+
+def bound_table():
+    """Each call through a bound table stands below the same plain call, and is answered as that one was."""
+    plain = {"kept": "node", "through": "invert"}
+    asked = re.split(r"\n(?! )", run("cases", [script()]).decode())
+    seen = set()
+    for above, each in zip(asked, asked[1:]):
+        word, _, rest = each.partition(" ")
+        if word in plain:
+            seen.add(word)
+            if above != f"{plain[word]} {rest}":
+                return f"{each}, below {above}"
+    return None if seen == set(plain) else f"asked were only {seen}"
+
+
 # ---- what the documents say
 
 def document_examples():
-    """The image examples of document 01, as it has them, by the reference."""
+    """The examples and limits of document 01 for the image, and the P that it names, by the reference."""
     nodes = {1: [32, 22, 16], 2: [128, 103, 86, 74, 64], 3: [512, 456, 410, 373, 342, 316, 293, 274, 256]}
     images = {1: "06", 2: "02 75 8A", 3: "00 C8 9A 75 56 3C 25 12"}
     for k in (1, 2, 3):
@@ -115,7 +181,25 @@ def document_examples():
     for number, (found, expected) in enumerate(limits):
         if found != expected:
             return f"limit {number}: found {found}, expected {expected}"
-    return None
+    return None if reference.product_sum(2, 135) == 3921 else "P of 135"
+
+
+def document_cases(output):
+    """tests/document01.txt has the cases of document 01 for reciprocals, in its words, as `cases` must print them. The answers in it
+    were written down from the document. Each must be printed as it stands there."""
+    cases = re.split(r"\n(?=#)", (ROOT / "tests" / "document01.txt").read_text().strip("\n"))
+    missing = [case for case in cases if case + "\n" not in output]
+    if missing:
+        return f"not printed: {missing[0]}"
+    return None if len(cases) > 30 else f"there are only {len(cases)} cases"
+
+
+def document_cases_reference():
+    return document_cases(reference.cases(script()))
+
+
+def document_cases_program():
+    return document_cases(run("cases", [script()]).decode())
 
 
 PRINTED_2 = b"""precision 2 bytes 3
@@ -131,11 +215,16 @@ def document_table():
     return same(reference.table(b"2\n").encode(), PRINTED_2)
 
 
-# ---- Table 1 of document 002
+# ---- Tables 1 and 2 of document 002
 
-def paper_rows():
-    lines = (ROOT / "tests" / "table1.txt").read_text().splitlines()
+def paper_rows(table):
+    lines = (ROOT / "tests" / f"{table}.txt").read_text().splitlines()
     return [line for line in lines if line and not line.startswith("#")]
+
+
+def printed_below(heading, output):
+    """What `cases` prints below a heading of its script, up to the next one."""
+    return output.decode().split(f"# {heading}\n", 1)[1].split("\n#", 1)[0]
 
 
 def in_base_2(text):
@@ -143,25 +232,34 @@ def in_base_2(text):
     return int(whole + fraction, 2)
 
 
-def printed_rows(output):
-    """The rows of Table 1 by the node values that stand below its heading in what `cases` prints."""
-    part = output.decode().split("# Table 1 of document 002\n", 1)[1].split("\n#", 1)[0]
-    values = re.findall(r"^ (\d+) 0 0 (\d+)$", part, re.M)
-    return [f"1.{int(j):02b} xxxxx {int(value) // 128}.{int(value) % 128:07b}" for j, value in values]
-
-
 def table1_reference():
-    for row in paper_rows():
+    for row in paper_rows("table1"):
         index, _, value = row.split(" ")
         j = in_base_2(index) - 4  # 1.xx is i = 2^k + j, in units of 1 / 2^k
         if reference.node(2, j) != in_base_2(value):
             return f"{row}: the reference has {reference.node(2, j)}"
-    return None if len(paper_rows()) == 4 else "the table has four rows"
+    return None if len(paper_rows("table1")) == 4 else "the table has four rows"
 
 
 def table1_program():
-    found = printed_rows(run("cases", [script()]))
-    return None if found == paper_rows() else f"found {found}"
+    """The rows of Table 1 by the node values that the program prints."""
+    values = re.findall(r"^ (\d+) 0 0 (\d+)$", printed_below("Table 1 of document 002", run("cases", [script()])), re.M)
+    found = [f"1.{int(j):02b} xxxxx {int(value) // 128}.{int(value) % 128:07b}" for j, value in values]
+    return None if found == paper_rows("table1") else f"found {found}"
+
+
+def table2_reference():
+    for row in paper_rows("table2"):
+        x, value = map(int, row.split(" "))  # in units of 1 / 128, and of 1 / 32
+        if reference.reciprocal(2, 7, x) != value:
+            return f"{row}: the reference has {reference.reciprocal(2, 7, x)}"
+    return None if len(paper_rows("table2")) == 33 else "the table has 33 rows"
+
+
+def table2_program():
+    """The first and last columns of Table 2 by the reciprocals that the program prints."""
+    found = re.findall(r"^ (\d+) 0 0 (\d+)$", printed_below("Table 2 of document 002", run("cases", [script()])), re.M)
+    return None if [" ".join(pair) for pair in found] == paper_rows("table2") else f"found {found}"
 
 
 # ---- the printed table
@@ -260,14 +358,21 @@ def one_command():
 
 
 def tests():
-    yield "document 01: the examples and limits of the image, by the reference", document_examples
+    yield "document 01: the examples and limits of the image, and P of 135, by the reference", document_examples
+    yield "document 01: its cases for reciprocals, by the reference", document_cases_reference
+    yield "document 01: its cases for reciprocals, by the program", document_cases_program
     yield "document 01: the printed table of precision 2, by the reference", document_table
     yield "cases: the stored output is what the reference writes", stored_output
     yield "cases: the program prints what the reference writes", printed_output
     for seed in range(12):
         yield f"cases: 400 random lines, seed {seed}", lambda seed=seed: random_scripts(seed)
+    yield "cases: each reciprocal given is less than an ulp off", less_than_an_ulp
+    yield "cases: bits to the right of an operand change no answer", bits_to_the_right
+    yield "cases: a bound table gives what the plain calls give", bound_table
     yield "Table 1 of document 002: the reference", table1_reference
     yield "Table 1 of document 002: the program", table1_program
+    yield "Table 2 of document 002: the reference", table2_reference
+    yield "Table 2 of document 002: the program", table2_program
     yield "print_table: document 01, precision 2", printed_table_document
     yield "print-table: one command prints the table of precision 2", one_command
     for name, pieces in GOOD.items():

@@ -1,6 +1,7 @@
 #!/usr/bin/env python3
 """Writes what the programs must print. It shares no code with the library and works by another method:
-fractions for the nodes, strings of '0' and '1' for the packing, the answers from the words of document 01.
+fractions for the nodes and the reciprocals, strings of '0' and '1' for the packing and the cutting of operands, the answers from
+the words of document 01.
 
 usage: reference.py cases <SCRIPT   what the program `cases` prints on that script (crates/cases/stdin)
        reference.py table <INPUT    what the program `print_table` prints on that standard input
@@ -53,6 +54,31 @@ def word_is_right(k, buffer, j):
     return bits_of(buffer)[j * width(k):(j + 1) * width(k)] == stored(k, j)
 
 
+def cut(k, x):
+    """The operand's leading bits: the k + 1 of i, which begin with its leading one, and the k + 3 of f after them."""
+    bits = format(x, "b")
+    return bits[:k + 1], bits[k + 1:2 * k + 4]
+
+
+def piece(k, x):
+    """j: the operand lies between nodes j and j + 1."""
+    return int(cut(k, x)[0], 2) - 2 ** k
+
+
+def product_sum(k, x):
+    """P: 2^(k+3) times the point at f on the straight line from node j to node j + 1."""
+    f = int(cut(k, x)[1], 2)
+    lower, upper = node(k, piece(k, x)), node(k, piece(k, x) + 1)
+    return lower * 2 ** (k + 3) - (lower - upper) * f
+
+
+def reciprocal(k, n, x):
+    """R: P in ulps, rounded down; 2^(k+5) of what P counts make an ulp. It is less than an ulp off."""
+    ulps = math.floor(Fraction(product_sum(k, x), 2 ** (k + 5)))
+    assert abs(ulps * x - 2 ** (n + 2 * k + 1)) < x, f"precision {k}, {x} with {n} fraction bits: {ulps} is an ulp off, or more"
+    return ulps
+
+
 # ---- the calls: each answer is (number, place, value)
 
 def first_two(k, buffer):
@@ -88,6 +114,19 @@ def call_node(k, buffer, j):
     if j < 2 ** k and not word_is_right(k, buffer, j):
         return (6, j, 0)
     return (0, 0, node(k, j))
+
+
+def call_reciprocal(k, buffer, n, x):
+    number = first_two(k, buffer)
+    if number:
+        return (number, 0, 0)
+    if n < 2 * k + 3 or n > 63:
+        return (4, 0, 0)
+    if not 2 ** n <= x <= 2 ** (n + 1) - 1:
+        return (5, 0, 0)
+    ends = (piece(k, x), piece(k, x) + 1)
+    bad = [j for j in ends if j < 2 ** k and not word_is_right(k, buffer, j)]
+    return (6, min(bad), 0) if bad else (0, 0, reciprocal(k, n, x))
 
 
 def call_word_bytes(k, buffer, j):
@@ -190,6 +229,17 @@ class Cases:
 
     def word(self, first, last, k):
         return self.each(first, last, lambda j: rows(call_word_bytes(k, self.buffer(), j)))
+
+    def invert(self, k, n, x, count=1, step=0):
+        """What is answered at the operands x, x + step, .. modulo 2^64, of which there is at least one."""
+        operands = [(x + step * number) % 2 ** 64 for number in range(max(1, count))]
+        return "".join(row(operand, *call_reciprocal(k, self.buffer(), n, operand)) for operand in operands)
+
+    def around(self, k, n, x, count=1, step=0):
+        operands = [x + step * number for number in range(max(1, count))]
+        return "".join(self.invert(k, n, operand - 1, 3, 1) for operand in operands)
+
+    kept, through = node, invert  # a bound table gives what the plain calls give
 
     def rule(self, first, last, k):
         return self.each(first, last, lambda j: row(value_or_0(k, j)))

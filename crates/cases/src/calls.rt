@@ -2,6 +2,8 @@
 use crate::print::bytes;
 use crate::print::line;
 use crate::print::number;
+use answers::NodeRead;
+use answers::ReciprocalGiven;
 use precision::Precision;
 
 fn answer(n: u32, place: u64, value: u64) {
@@ -20,13 +22,42 @@ pub(crate) fn check(s: &[u8], k: u32) {
     answer(done.number, done.place, done.value);
 }
 
+fn read(r: NodeRead) {
+    answer(r.number, r.place, r.value.0);
+}
+
 pub(crate) fn node(s: &[u8], k: u32, j: u32) {
-    let read = reading::node(Precision(k), s, j);
-    answer(read.number, read.place, read.value.0);
+    read(reading::node(Precision(k), s, j));
+}
+
+// Through a bound table.
+pub(crate) fn bound_node(s: &[u8], k: u32, j: u32) {
+    read(binding::bound_node(Precision(k), s, j));
 }
 
 pub(crate) fn word(s: &[u8], k: u32, j: u32) {
     bytes(reading::word_bytes(Precision(k), s, j));
+}
+
+fn given(x: u64, r: ReciprocalGiven) {
+    number(x);
+    answer(r.number, r.place, r.value.0);
+}
+
+pub(crate) fn reciprocal(s: &[u8], k: u32, n: u32, x: u64) {
+    given(x, inverting::reciprocal(Precision(k), s, n, x));
+}
+
+// Through a bound table.
+pub(crate) fn bound_reciprocal(s: &[u8], k: u32, n: u32, x: u64) {
+    given(x, binding::bound_reciprocal(Precision(k), s, n, x));
+}
+
+// The reciprocals of an operand and of both its neighbours, modulo 2^64.
+pub(crate) fn around(s: &[u8], k: u32, n: u32, x: u64) {
+    reciprocal(s, k, n, std::num::wrapping_sub_u64(x, 1));
+    reciprocal(s, k, n, x);
+    reciprocal(s, k, n, std::num::wrapping_add_u64(x, 1));
 }
 
 // The value of node j by the rule alone, with no image.

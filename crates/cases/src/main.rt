@@ -13,8 +13,14 @@
 // printed: the number, and the numbers that the call answered.
 //     precision FIRST LAST, check FIRST LAST (precisions)
 //     node FIRST LAST K, word FIRST LAST K, rule FIRST LAST K, eight FIRST LAST (nodes; `eight` has those of precision 8)
+//     kept FIRST LAST K (the same as `node`, through a bound table)
 // One call is made with a single number, and its answer is printed alone:
 //     build K
+// A call is made with COUNT operands of N fraction bits, or with one where there is no COUNT. The first is X, and each other is STEP
+// above the one before it, modulo 2^64. Each time a line is printed: the operand, and the numbers that the call answered.
+//     invert K N X COUNT STEP
+//     around K N X COUNT STEP (the same with both neighbours of each operand: one less, itself, one more)
+//     through K N X COUNT STEP (the same as `invert`, through a bound table)
 // Any other line, such as one that begins with '#', is printed alone.
 mod buffers;
 mod calls;
@@ -64,13 +70,7 @@ fn run(room: &mut [u8], lent: usize, line: &[u8]) -> usize {
 
 fn lend(room: &mut [u8], lent: usize, line: &[u8]) {
     if lent <= room.len() {
-        call(
-            &mut room[0..lent],
-            script::at(line, 0),
-            script::number(line, 0),
-            script::number(line, 1),
-            script::number(line, 2),
-        );
+        call(&mut room[0..lent], line);
     }
 }
 
@@ -87,32 +87,58 @@ fn change(room: &mut [u8], lent: usize, line: &[u8]) -> usize {
 }
 
 // A command that prints.
-fn call(s: &mut [u8], letter: u8, a: u32, b: u32, c: u32) {
-    match letter {
-        b'b' => calls::build(s, a),
+fn call(s: &mut [u8], line: &[u8]) {
+    match script::at(line, 0) {
+        b'b' => calls::build(s, script::number(line, 0)),
         b's' => print::bytes(s),
-        b'p' | b'c' | b'n' | b'w' | b'r' | b'e' => from(s, letter, a, b, c),
+        b'p' | b'c' | b'n' | b'k' | b'w' | b'r' | b'e' => from(s, line),
+        b'i' | b'a' | b't' => operands(s, line),
         _ => {}
     }
 }
 
-fn from(s: &[u8], letter: u8, first: u32, last: u32, k: u32) {
-    one(s, letter, first, k);
-    let mut j = first;
+fn from(s: &[u8], line: &[u8]) {
+    let last = script::number(line, 1);
+    let mut j = script::number(line, 0);
+    one(s, line, j);
     while j < last {
         j += 1;
-        one(s, letter, j, k);
+        one(s, line, j);
     }
 }
 
-fn one(s: &[u8], letter: u8, j: u32, k: u32) {
+fn one(s: &[u8], line: &[u8], j: u32) {
+    let k = script::number(line, 2);
     print::number(j as u64);
-    match letter {
+    match script::at(line, 0) {
         b'p' => calls::precision(j),
         b'c' => calls::check(s, j),
         b'n' => calls::node(s, k, j),
+        b'k' => calls::bound_node(s, k, j),
         b'w' => calls::word(s, k, j),
         b'r' => calls::rule(k, j),
         _ => calls::eight(j),
+    }
+}
+
+fn operands(s: &[u8], line: &[u8]) {
+    let count = script::number(line, 3);
+    let mut x = script::long(line, 2);
+    let mut made = 1;
+    operand(s, line, x);
+    while made < count {
+        x = std::num::wrapping_add_u64(x, script::long(line, 4));
+        operand(s, line, x);
+        made += 1;
+    }
+}
+
+fn operand(s: &[u8], line: &[u8], x: u64) {
+    let k = script::number(line, 0);
+    let n = script::number(line, 1);
+    match script::at(line, 0) {
+        b'a' => calls::around(s, k, n, x),
+        b't' => calls::bound_reciprocal(s, k, n, x),
+        _ => calls::reciprocal(s, k, n, x),
     }
 }

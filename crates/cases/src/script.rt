@@ -18,16 +18,16 @@ fn worth(b: u8) -> u8 {
 }
 
 // v with a digit after it, or as it is where that is too long.
-fn more(v: u32, digit: u8) -> u32 {
-    if v <= 429496729 {
-        return std::num::wrapping_add_u32(v * 10, digit as u32);
+fn more(v: u64, digit: u8) -> u64 {
+    if v <= 1844674407370955161 {
+        return std::num::wrapping_add_u64(v * 10, digit as u64);
     }
     v
 }
 
 // The number whose first digit stands at i, 0 where none does.
-fn number_at(s: &[u8], i: usize) -> u32 {
-    let mut v: u32 = 0;
+fn number_at(s: &[u8], i: usize) -> u64 {
+    let mut v: u64 = 0;
     let mut e = i;
     while e < s.len() {
         let digit = worth(s[e]);
@@ -41,7 +41,7 @@ fn number_at(s: &[u8], i: usize) -> u32 {
 }
 
 // The number of a line that has `which` numbers before it, 0 where there is none.
-pub(crate) fn number(line: &[u8], which: u32) -> u32 {
+pub(crate) fn long(line: &[u8], which: u32) -> u64 {
     let mut left = which;
     let mut e = 0;
     while e < line.len() {
@@ -54,6 +54,11 @@ pub(crate) fn number(line: &[u8], which: u32) -> u32 {
         e += 1;
     }
     0
+}
+
+// The same where the number has 32 bits.
+pub(crate) fn number(line: &[u8], which: u32) -> u32 {
+    (long(line, which) % 4294967296) as u32
 }
 
 // Where b is a hex digit, makes it the next one after n digits of bytes. Answers how many there are then.

@@ -12,12 +12,13 @@ use Rattle.nodes.specs.Nodes.{node, isRight}
 use Rattle.nodes.proofs.Nodes.{decode-right, decode-last}
 use Rattle.answers.specs.Refusal.{served}
 use Rattle.image.specs.Image.{wordOf, isWrong}
+use Rattle.image.specs.Refusals.{wordRefusal}
 use Rattle.interpolation.specs.Algorithm.{nodeNumber, fraction, productSum, chopped, cutReciprocal}
 use Rattle.interpolation.specs.Reciprocal.{nodeOf, readReciprocal}
 use Rattle.interpolation.specs.Calls.{cutOutcome}
 
 -- a word that is read and is not wrong stands for the node; node 2^k has none and is the node in any case
-pub node-right : (k : ℕ) (s : List ℕ) (j : ℕ) → j ≤ 2 ^ k → (ltb j (2 ^ k) && isWrong k s j) ≡ false → nodeOf k s j ≡ node k j
+pub node-right : (k : ℕ) (s : List ℕ) (j : ℕ) → j ≤ 2 ^ k → wordRefusal k s j .applies ≡ false → nodeOf k s j ≡ node k j
 node-right k s j h e = by (ltb j (2 ^ k)) refl e
   where
     by : (b : Bool) → ltb j (2 ^ k) ≡ b → (b && isWrong k s j) ≡ false → nodeOf k s j ≡ node k j
@@ -28,15 +29,15 @@ node-right k s j h e = by (ltb j (2 ^ k)) refl e
 
 module _ (k : ℕ) (s : List ℕ) (t : ℕ) where
   -- the word of node j is wrong
-  pub first-wrong : (ltb (nodeNumber k t) (2 ^ k) && isWrong k s (nodeNumber k t)) ≡ true → cutOutcome k s t ≡ record { number = 6; place = nodeNumber k t; value = 0 }
+  pub first-wrong : wordRefusal k s (nodeNumber k t) .applies ≡ true → cutOutcome k s t ≡ record { number = 6; place = nodeNumber k t; value = 0 }
   first-wrong e = rw e
 
-  module _ (first : (ltb (nodeNumber k t) (2 ^ k) && isWrong k s (nodeNumber k t)) ≡ false) where
+  module _ (first : wordRefusal k s (nodeNumber k t) .applies ≡ false) where
     -- it is right, and that of node j + 1 is wrong
-    pub next-wrong : (ltb (nodeNumber k t + 1) (2 ^ k) && isWrong k s (nodeNumber k t + 1)) ≡ true → cutOutcome k s t ≡ record { number = 6; place = nodeNumber k t + 1; value = 0 }
+    pub next-wrong : wordRefusal k s (nodeNumber k t + 1) .applies ≡ true → cutOutcome k s t ≡ record { number = 6; place = nodeNumber k t + 1; value = 0 }
     next-wrong e = rw (first, e)
 
-    module _ (next : (ltb (nodeNumber k t + 1) (2 ^ k) && isWrong k s (nodeNumber k t + 1)) ≡ false) where
+    module _ (next : wordRefusal k s (nodeNumber k t + 1) .applies ≡ false) where
       -- both are right
       pub none-wrong : cutOutcome k s t ≡ served (readReciprocal k s t)
       none-wrong = rw (first, next)

@@ -5,10 +5,16 @@ use Rattle.cases.proofs.from.Statement.{statement}
 use Rattle.cases.proofs.from.Tie as tie
 
 abbrev Inv-loop : tie.InvT-loop
-Inv-loop s letter first last k j₀ j = 0 ≤ j
+Inv-loop s line last j₀ j = 0 ≤ j
 
 abbrev μ-loop : tie.MeasureT-loop
-μ-loop s letter first last k j₀ j = last - j
+μ-loop s line last j₀ j = last - j
+
+number-requires : tie.Need-number-requires Inv-loop μ-loop
+number-requires c κs = search needs
+
+number-requires-2 : tie.Need-number-requires-2 Inv-loop μ-loop
+number-requires-2 c κs = search needs
 
 one-requires : tie.Need-one-requires Inv-loop μ-loop
 one-requires c κs = search needs
@@ -37,6 +43,8 @@ from-spec =
     (tie.spec
     Inv-loop
     μ-loop
+    number-requires
+    number-requires-2
     one-requires
     loop-holds
     add-j

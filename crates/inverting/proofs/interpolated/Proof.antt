@@ -1,7 +1,7 @@
 -- `inverting::interpolated` meets its contract: two products, their difference and a shift.
 -- Assumes nothing.
 use mathlib.Core.Path.{_≡_, ap, _∙_}
-use Prim.Native.Nat.{ℕ, _+_, _-_, _*_, _/_, _^_, _≤_, _<_}
+use Prim.Native.Nat.{ℕ, _+_, _-_, _*_, _/_, _^_, _≤_}
 use native.Mathlib.Nat.{le-of-lt}
 use native.Mathlib.Omega.{arith}
 use lib.Pow.{pow-mono}
@@ -17,7 +17,7 @@ width : (c : tie.After-power) → c .power .result ≡ 2 ^ (c .before .before .a
 width c = c .power .ensures ∙ power-fits (c .before .before .args .k .0 + 3) (omega (arith, c .before .before .pre .high))
 
 -- both products have their place in 64 bits, and the second is no greater
-product : (k c c' f : ℕ) → IsPiece k c c' f → c * 2 ^ (k + 3) < 2 ^ 64
+product : (k c c' f : ℕ) → IsPiece k c c' f → c * 2 ^ (k + 3) ≤ 2 ^ 42
 product k c c' f p =
     let most : 3 * k + 6 ≤ 42 = omega (arith, p .high) in
     omega (arith, product-most k c c' f (p .falls) (le-of-lt (p .inside)) (p .first), pow-mono most)
@@ -34,7 +34,7 @@ power-requires c κs = search needs
 mul-sum : tie.Need-mul-sum
 mul-sum c =
     let s = c .before .before .before in
-    rw (width (c .before)) (record { fits = product (s .args .k .0) (s .args .c .0) (s .args .d .0) (s .args .f) (s .pre) })
+    rw (width (c .before)) (record { fits = omega (arith, product (s .args .k .0) (s .args .c .0) (s .args .d .0) (s .args .f) (s .pre)) })
 
 sub-sum : tie.Need-sub-sum
 sub-sum c = omega (arith, c .before .before .before .before .before .pre .falls)

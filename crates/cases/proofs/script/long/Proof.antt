@@ -1,9 +1,9 @@
--- `cases::script::number` is safe and ends.
+-- `cases::script::long` is safe and ends.
 use Prim.Native.Nat.{_≤_, _-_}
 use lib.ListN.{length}
 use borrow.Author.Needs.{needs}
-use Rattle.cases.proofs.script.number.Statement.{statement}
-use Rattle.cases.proofs.script.number.Tie as tie
+use Rattle.cases.proofs.script.long.Statement.{statement}
+use Rattle.cases.proofs.script.long.Tie as tie
 
 abbrev Inv-loop : tie.InvT-loop
 Inv-loop line which left₀ e₀ left e = e ≤ length line
@@ -41,8 +41,8 @@ loop-again c = search needs
 returns-2 : tie.Need-returns-2 Inv-loop μ-loop
 returns-2 c = search needs
 
-pub number-spec : {M : Type 1} → statement M
-number-spec =
+pub long-spec : {M : Type 1} → statement M
+long-spec =
     tie.close
     (tie.spec
     Inv-loop
