@@ -2,7 +2,7 @@
 -- Assumes nothing.
 use mathlib.Core.Path.{_≡_, sym, ap, _∙_}
 use Prim.Native.Nat.{ℕ, _+_, _-_, _*_, _^_, _≤_, _<_}
-use native.Mathlib.Nat.{le-of-lt, sub-le, mul-le-mul, mul-le-mul-right, le-div-iff-mul-le, div-le-of-le-mul}
+use native.Mathlib.Nat.{le-of-lt, mod-lt, sub-le, mul-le-mul, mul-le-mul-right, le-div-iff-mul-le, div-le-of-le-mul}
 use native.Mathlib.Omega.{arith}
 use lib.Pow.{pow-pos, pow-add}
 use Rattle.nodes.specs.Nodes.{node}
@@ -37,29 +37,30 @@ module _ (k t : ℕ) (least : 2 ^ (2 * k + 3) ≤ t) (most : t < 2 ^ (2 * k + 4)
   pub cut-parts : (2 ^ k + nodeNumber k t) * 2 ^ (k + 3) + fraction k t ≡ t
   cut-parts = pieces.parts (2 ^ k) (2 ^ (k + 3)) t (pow-pos (k + 3)) from to
 
-  pub cut-fraction-below : fraction k t < 2 ^ (k + 3)
-  cut-fraction-below = pieces.rest-below (2 ^ k) (2 ^ (k + 3)) t (pow-pos (k + 3)) from to
+-- f is below 2^(k+3) at every t
+pub cut-fraction-below : (k t : ℕ) → fraction k t < 2 ^ (k + 3)
+cut-fraction-below k t = mod-lt t (pow-pos (k + 3))
 
--- P and R between nodes c and c' that lie between the first and the last one
+-- the two products of P, and P, between nodes c and c': none has more than 3k + 6 bits behind its leading one, and the second product is
+-- no greater than the first
+pub product-most : (k c : ℕ) → c ≤ 2 ^ (2 * k + 3) → c * 2 ^ (k + 3) ≤ 2 ^ (3 * k + 6)
+product-most k c h =
+    let together : 2 ^ (2 * k + 3) * 2 ^ (k + 3) ≡ 2 ^ (3 * k + 6) =
+    sym (pow-add 2 (2 * k + 3) (k + 3)) ∙ ap (λ (e : ℕ). 2 ^ e) {x = 2 * k + 3 + (k + 3)} {y = 3 * k + 6} (omega arith) in
+    omega (arith, mul-le-mul-right (2 ^ (k + 3)) h, together)
+
+pub difference-most : (k c c' f : ℕ) → f ≤ 2 ^ (k + 3) → (c - c') * f ≤ c * 2 ^ (k + 3)
+difference-most k c c' f inside = mul-le-mul (sub-le c c') inside
+
+pub sum-most : (k c c' f : ℕ) → productSum k c c' f ≤ c * 2 ^ (k + 3)
+sum-most k c c' f = sub-le (c * 2 ^ (k + 3)) ((c - c') * f)
+
+-- R between nodes that lie between the first and the last one
 module _ (k c c' f : ℕ) (falls : c' ≤ c) (inside : f ≤ 2 ^ (k + 3)) where
-  pub sum-most : productSum k c c' f ≤ c * 2 ^ (k + 3)
-  sum-most = sub-le (c * 2 ^ (k + 3)) ((c - c') * f)
-
-  -- the two products of P: the second is no greater than the first, which has at most 3k + 6 bits behind its leading one
-  pub difference-most : (c - c') * f ≤ c * 2 ^ (k + 3)
-  difference-most = mul-le-mul (sub-le c c') inside
-
-  pub product-most : c ≤ 2 ^ (2 * k + 3) → c * 2 ^ (k + 3) ≤ 2 ^ (3 * k + 6)
-  product-most h = omega (arith, mul-le-mul-right (2 ^ (k + 3)) h, together)
-    where
-      together : 2 ^ (2 * k + 3) * 2 ^ (k + 3) ≡ 2 ^ (3 * k + 6)
-      together =
-          sym (pow-add 2 (2 * k + 3) (k + 3)) ∙ ap (λ (e : ℕ). 2 ^ e) {x = 2 * k + 3 + (k + 3)} {y = 3 * k + 6} (omega arith)
-
   pub chopped-most : c ≤ 2 ^ (2 * k + 3) → chopped k (productSum k c c' f) ≤ 2 ^ (2 * k + 1)
   chopped-most h =
       div-le-of-le-mul (2 ^ (k + 5))
-      (omega (arith, sum-most, mul-le-mul-right (2 ^ (k + 3)) h, powers-most))
+      (omega (arith, sum-most k c c' f, mul-le-mul-right (2 ^ (k + 3)) h, powers-most))
     where
       powers-most : 2 ^ (2 * k + 3) * 2 ^ (k + 3) ≡ 2 ^ (k + 5) * 2 ^ (2 * k + 1)
       powers-most =
@@ -78,23 +79,23 @@ module _ (k c c' f : ℕ) (falls : c' ≤ c) (inside : f ≤ 2 ^ (k + 3)) where
           ∙ ap (λ (e : ℕ). 2 ^ e) {x = 2 * k + 2 + (k + 3)} {y = 2 * k + (k + 5)} (omega arith)
           ∙ pow-add 2 (2 * k) (k + 5)
 
-module _ (k t : ℕ) (least : 2 ^ (2 * k + 3) ≤ t) (most : t < 2 ^ (2 * k + 4)) where
-  -- both nodes of a piece lie between the first and the last one, and fall
-  pub cut-node-most : node k (nodeNumber k t) ≤ 2 ^ (2 * k + 3)
-  cut-node-most = omega (arith, node-first k, node-ordered k {i = 0} {j = nodeNumber k t} (omega arith))
+-- both nodes of a piece lie between the first and the last one, and fall
+pub cut-node-most : (k t : ℕ) → node k (nodeNumber k t) ≤ 2 ^ (2 * k + 3)
+cut-node-most k t = omega (arith, node-first k, node-ordered k {i = 0} {j = nodeNumber k t} (omega arith))
 
+pub cut-node-falls : (k t : ℕ) → node k (nodeNumber k t + 1) ≤ node k (nodeNumber k t)
+cut-node-falls k t = node-ordered k {i = nodeNumber k t} {j = nodeNumber k t + 1} (omega arith)
+
+module _ (k t : ℕ) (least : 2 ^ (2 * k + 3) ≤ t) (most : t < 2 ^ (2 * k + 4)) where
   pub cut-node-least : 2 ^ (2 * k + 2) ≤ node k (nodeNumber k t + 1)
   cut-node-least =
       omega (arith, node-last k, node-ordered k {i = nodeNumber k t + 1} {j = 2 ^ k} (omega (arith, cut-number-below k t least most)))
 
-  pub cut-node-falls : node k (nodeNumber k t + 1) ≤ node k (nodeNumber k t)
-  cut-node-falls = node-ordered k {i = nodeNumber k t} {j = nodeNumber k t + 1} (omega arith)
-
   -- R runs from 2^(2k) to 2^(2k+1)
   pub cut-reciprocal-least : 2 ^ (2 * k) ≤ cutReciprocal k t
   cut-reciprocal-least =
-      chopped-least k (node k (nodeNumber k t)) (node k (nodeNumber k t + 1)) (fraction k t) cut-node-falls (le-of-lt (cut-fraction-below k t least most)) cut-node-least
+      chopped-least k (node k (nodeNumber k t)) (node k (nodeNumber k t + 1)) (fraction k t) (cut-node-falls k t) (le-of-lt (cut-fraction-below k t)) cut-node-least
 
   pub cut-reciprocal-most : cutReciprocal k t ≤ 2 ^ (2 * k + 1)
   cut-reciprocal-most =
-      chopped-most k (node k (nodeNumber k t)) (node k (nodeNumber k t + 1)) (fraction k t) cut-node-falls (le-of-lt (cut-fraction-below k t least most)) cut-node-most
+      chopped-most k (node k (nodeNumber k t)) (node k (nodeNumber k t + 1)) (fraction k t) (cut-node-falls k t) (le-of-lt (cut-fraction-below k t)) (cut-node-most k t)

@@ -9,7 +9,7 @@ use lib.Dec.{eqb, leb, ltb}
 use lib.Pow.{pow-add, pow-pos, split, shr-shr, high}
 use borrow.Author.Tests.{leb-true, ltb-true, eqb-true, le-leb, lt-ltb, eq-eqb}
 use Rattle.bools.proofs.Bools.{same}
-use Rattle.operand.specs.Operand.{isNormalised}
+use Rattle.operand.specs.Operand.{isNormalised, cutOperand}
 
 -- X / 2^n is 1 from 2^n up to 2^(n+1)
 pub high-one : (n X : ℕ) → 2 ^ n ≤ X → X < 2 ^ (n + 1) → X / 2 ^ n ≡ 1
@@ -48,6 +48,12 @@ module _ (c n : ℕ) (enough : c ≤ n) where
 
   pub cut-range : (X : ℕ) → 2 ^ n ≤ X → X < 2 ^ (n + 1) → (2 ^ c ≤ X / 2 ^ (n - c)) × (X / 2 ^ (n - c) < 2 ^ (c + 1))
   cut-range X l h = one-high c (X / 2 ^ (n - c)) (cut-high X ∙ high-one n X l h)
+
+-- the cut of a normalised operand at precision k is an operand of 2k + 3 fraction bits, and normalised
+pub cut-normalised : (k n X : ℕ) → 2 * k + 3 ≤ n → 2 ^ n ≤ X → X < 2 ^ (n + 1) → (2 ^ (2 * k + 3) ≤ cutOperand k n X) × (cutOperand k n X < 2 ^ (2 * k + 4))
+cut-normalised k n X enough l h =
+    let one-more : 2 * k + 3 + 1 ≡ 2 * k + 4 = omega arith in
+    rw one-more at (cut-range (2 * k + 3) n enough X l h)
 
 -- m bits b written to the right of X
 module _ (m X b : ℕ) (h : b < 2 ^ m) where

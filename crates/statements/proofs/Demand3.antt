@@ -12,6 +12,7 @@ use Rattle.interpolation.specs.Algorithm.{nodeNumber, fraction, cutProductSum}
 use Rattle.interpolation.specs.Reciprocal.{reciprocal}
 use Rattle.interpolation.specs.Calls.{reciprocalOutcome}
 use Rattle.interpolation.proofs.Bound.{reciprocal-low, reciprocal-high}
+use Rattle.interpolation.proofs.Cut.{cut-fraction-below}
 use Rattle.statements.specs.Terms.{IsPrecision}
 use Rattle.statements.proofs.Longer
 use Rattle.statements.proofs.Reciprocals
@@ -60,7 +61,7 @@ pub node-difference : (k j : ℕ) → node k j - node k (j + 1) < 2 ^ (k + 3)
 node-difference = Sizes.step-small
 
 pub fraction-below : (k t : ℕ) → fraction k t < 2 ^ (k + 3)
-fraction-below = Sizes.fraction-small
+fraction-below = cut-fraction-below
 
 -- so a multiplier of k + 3 bits by k + 3 bits suffices,
 pub product-below : (k t : ℕ) → (node k (nodeNumber k t) - node k (nodeNumber k t + 1)) * fraction k t < 2 ^ (2 * k + 6)

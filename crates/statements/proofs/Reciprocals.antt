@@ -5,8 +5,7 @@ use mathlib.Core.Logic.{_↔_, _⊎_, ⊎-elim}
 use mathlib.Core.Bool.{not}
 use mathlib.Core.List.{List, [], _∷_}
 use Prim.Native.Nat.{ℕ, _+_, _-_, _*_, _^_, _≤_, _<_}
-use native.Mathlib.Nat.{le-of-lt, sub-le, mul-le-mul}
-use native.Mathlib.Omega.{arith}
+use native.Mathlib.Nat.{le-of-lt}
 use lib.Dec.{T, eqb}
 use lib.ListN.{length}
 use Rattle.answers.specs.Refusal.{Refusal, Outcome, outcome, served}
@@ -16,13 +15,13 @@ use Rattle.nodes.specs.Nodes.{node}
 use Rattle.image.specs.Refusals.{wordRefusal}
 use Rattle.operand.specs.Operand.{cutOperand}
 use Rattle.operand.specs.Refusals.{fractionRefusal, operandRefusal}
-use Rattle.operand.proofs.Laws.{cut-range}
+use Rattle.operand.proofs.Laws.{cut-normalised}
 use Rattle.operand.proofs.Limits.{operand-passes, operand-none}
 use Rattle.interpolation.specs.Algorithm.{index, nodeNumber, fraction}
 use Rattle.interpolation.specs.Reciprocal.{readReciprocal, reciprocal}
 use Rattle.interpolation.specs.Calls.{cutRefusals, cutOutcome, reciprocalOutcome}
 use Rattle.interpolation.proofs.Answers.{first-wrong, next-wrong, none-wrong, read-right as gives-R}
-use Rattle.interpolation.proofs.Cut.{cut-index, cut-number-below, cut-node-falls, cut-fraction-below, cut-reciprocal-least, cut-reciprocal-most}
+use Rattle.interpolation.proofs.Cut.{cut-index, cut-number-below, cut-node-falls, cut-fraction-below, difference-most, cut-reciprocal-least, cut-reciprocal-most}
 use Rattle.statements.specs.Terms.{IsPrecision, IsLongEnough, IsRightAt, IsFractionCount, IsNormalised}
 use Rattle.statements.proofs.Iff.{joined, same, both, under, either, row3, row4, row5, row6, is-count, no-count, is-normalised, not-normalised, wrong-word, no-wrong-word, read-wrong, read-right}
 use Rattle.statements.proofs.Numbers.{alone, refuses-1, refuses-2, kept-answer, later-number}
@@ -71,10 +70,8 @@ module _ (k n X : ℕ) where
   j = nodeNumber k (cutOperand k n X)
 
   -- the cut of a normalised operand is normalised
-  pub cut-in-range : 2 * k + 3 ≤ n → IsNormalised n X → (2 ^ (2 * k + 3) ≤ cutOperand k n X) × (cutOperand k n X < 2 ^ (2 * k + 4))
-  cut-in-range e o =
-      let one-more : 2 * k + 3 + 1 ≡ 2 * k + 4 = omega arith in
-      rw one-more at (cut-range (2 * k + 3) n e X (o .0) (o .1))
+  cut-in-range : 2 * k + 3 ≤ n → IsNormalised n X → (2 ^ (2 * k + 3) ≤ cutOperand k n X) × (cutOperand k n X < 2 ^ (2 * k + 4))
+  cut-in-range e o = cut-normalised k n X e (o .0) (o .1)
 
   -- so it leads to a node that has a word
   pub has-word : 2 * k + 3 ≤ n → IsNormalised n X → j < 2 ^ k
@@ -87,8 +84,8 @@ module _ (k n X : ℕ) where
       let r = cut-in-range e o in (
         cut-index k (cutOperand k n X) (r .0) (r .1),
         has-word e o,
-        cut-node-falls k (cutOperand k n X) (r .0) (r .1),
-        mul-le-mul (sub-le (node k j) (node k (j + 1))) (le-of-lt (cut-fraction-below k (cutOperand k n X) (r .0) (r .1))),
+        cut-node-falls k (cutOperand k n X),
+        difference-most k (node k j) (node k (j + 1)) (fraction k (cutOperand k n X)) (le-of-lt (cut-fraction-below k (cutOperand k n X))),
       )
 
   -- R runs from 2^(2k) to 2^(2k+1)

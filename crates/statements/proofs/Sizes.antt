@@ -2,26 +2,24 @@
 -- Assumes nothing.
 use mathlib.Core.Path.{_≡_, sym, ap, _∙_}
 use Prim.Native.Nat.{ℕ, _+_, _-_, _*_, _^_, _≤_, _<_}
-use native.Mathlib.Nat.{le-of-lt, sub-le, le-trans, lt-of-le-of-lt, lt-trans, mod-lt, mul-le-mul, mul-le-mul-right}
+use native.Mathlib.Nat.{le-of-lt, le-trans, lt-of-le-of-lt, lt-trans, mul-le-mul}
 use native.Mathlib.Omega.{arith}
 use lib.Pow.{pow-add, pow-pos, pow-lt}
 use Rattle.nodes.specs.Nodes.{node}
-use Rattle.nodes.proofs.Nodes.{node-first, node-ordered, node-near}
+use Rattle.nodes.proofs.Nodes.{node-near}
 use Rattle.interpolation.specs.Algorithm.{nodeNumber, fraction, cutProductSum}
 use Rattle.interpolation.proofs.Table.{sum-parts}
+use Rattle.interpolation.proofs.Cut.{cut-fraction-below, cut-node-most, cut-node-falls, product-most, sum-most}
 use Rattle.statements.specs.Terms.{IsPrecision}
 
--- both factors of the product with the fraction
+-- the difference of neighbours
 pub step-small : (k j : ℕ) → node k j - node k (j + 1) < 2 ^ (k + 3)
 step-small k j = omega (arith, node-near k j, pow-pos (k + 3))
-
-pub fraction-small : (k t : ℕ) → fraction k t < 2 ^ (k + 3)
-fraction-small k t = mod-lt t (pow-pos (k + 3))
 
 -- P between both nodes
 pub on-the-line : (k t : ℕ) → cutProductSum k t ≡ node k (nodeNumber k t) * (2 ^ (k + 3) - fraction k t) + node k (nodeNumber k t + 1) * fraction k t
 on-the-line k t =
-    sum-parts (node k (nodeNumber k t)) (node k (nodeNumber k t + 1)) (2 ^ (k + 3)) (fraction k t) (node-ordered k (omega arith)) (le-of-lt (fraction-small k t))
+    sum-parts (node k (nodeNumber k t)) (node k (nodeNumber k t + 1)) (2 ^ (k + 3)) (fraction k t) (cut-node-falls k t) (le-of-lt (cut-fraction-below k t))
 
 -- a product of powers
 joined : (a b e : ℕ) → a + b ≡ e → 2 ^ a * 2 ^ b ≡ 2 ^ e
@@ -33,16 +31,14 @@ below-square h l = omega (arith, mul-le-mul h l)
 
 module _ (k t : ℕ) where
   first-product : node k (nodeNumber k t) * 2 ^ (k + 3) ≤ 2 ^ (3 * k + 6)
-  first-product =
-      let c : node k (nodeNumber k t) ≤ 2 ^ (2 * k + 3) = omega (arith, node-first k, node-ordered k {i = 0} {j = nodeNumber k t} (omega arith)) in
-      omega (arith, mul-le-mul-right (2 ^ (k + 3)) c, joined (2 * k + 3) (k + 3) (3 * k + 6) (omega arith))
+  first-product = product-most k (node k (nodeNumber k t)) (cut-node-most k t)
 
   pub second-product : (node k (nodeNumber k t) - node k (nodeNumber k t + 1)) * fraction k t < 2 ^ (2 * k + 6)
   second-product =
-      rw (joined (k + 3) (k + 3) (2 * k + 6) (omega arith)) at (below-square (step-small k (nodeNumber k t)) (fraction-small k t))
+      rw (joined (k + 3) (k + 3) (2 * k + 6) (omega arith)) at (below-square (step-small k (nodeNumber k t)) (cut-fraction-below k t))
 
   sum-small : cutProductSum k t ≤ 2 ^ (3 * k + 6)
-  sum-small = le-trans (sub-le (node k (nodeNumber k t) * 2 ^ (k + 3)) ((node k (nodeNumber k t) - node k (nodeNumber k t + 1)) * fraction k t)) first-product
+  sum-small = le-trans (sum-most k (node k (nodeNumber k t)) (node k (nodeNumber k t + 1)) (fraction k t)) first-product
 
   module _ (p : IsPrecision k) where
     few : 3 * k + 6 < 64

@@ -20,10 +20,10 @@ width c = c .power .ensures ∙ power-fits (c .before .before .args .k .0 + 3) (
 product : (k c c' f : ℕ) → IsPiece k c c' f → c * 2 ^ (k + 3) ≤ 2 ^ 42
 product k c c' f p =
     let most : 3 * k + 6 ≤ 42 = omega (arith, p .high) in
-    omega (arith, product-most k c c' f (p .falls) (le-of-lt (p .inside)) (p .first), pow-mono most)
+    omega (arith, product-most k c (p .first), pow-mono most)
 
 difference : (k c c' f : ℕ) → IsPiece k c c' f → (c - c') * f ≤ c * 2 ^ (k + 3)
-difference k c c' f p = difference-most k c c' f (p .falls) (le-of-lt (p .inside))
+difference k c c' f p = difference-most k c c' f (le-of-lt (p .inside))
 
 add-power : tie.Need-add-power
 add-power c = omega (arith, c .before .pre .high)

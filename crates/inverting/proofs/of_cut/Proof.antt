@@ -192,13 +192,13 @@ interpolated-requires c κs =
     let upper = upper-right right in
     let is-c = lower .1 ∙ node-right (k at) (s at) (j at) (le-of-lt (below at)) (lower .0) in
     let is-d = upper .1 ∙ node-right (k at) (s at) (j at + 1) (omega (arith, below at)) (upper .0) in
-    let most = cut-node-most (k at) (t at) (start at .pre .least) (start at .pre .most) in
-    let falls = cut-node-falls (k at) (t at) (start at .pre .least) (start at .pre .most) in
+    let most = cut-node-most (k at) (t at) in
+    let falls = cut-node-falls (k at) (t at) in
     record {
       high = start at .pre .high;
       first = omega (arith, is-c, is-d, most, falls);
       falls = omega (arith, is-c, is-d, falls);
-      inside = omega (arith, c .low .ensures, cut-fraction-below (k at) (t at) (start at .pre .least) (start at .pre .most));
+      inside = omega (arith, c .low .ensures, cut-fraction-below (k at) (t at));
     }
 
 returns-3 : tie.Need-returns-3

@@ -2,10 +2,8 @@
 -- Assumes nothing.
 use mathlib.Core.Path.{_≡_, sym, ap, _∙_}
 use mathlib.Core.List.{List, _∷_}
-use Prim.Native.Nat.{ℕ, _+_, _*_}
-use native.Mathlib.Omega.{arith}
+use Prim.Native.Nat.{ℕ}
 use lib.ListN.{length}
-use lib.Pow.{pow-add}
 use borrow.Author.Needs.{needs}
 use Rattle.answers.specs.Answer.{reciprocalGiven}
 use Rattle.image.specs.Refusals.{brokenLimit}
@@ -13,7 +11,7 @@ use Rattle.image.proofs.Limits as image
 use Rattle.image.proofs.Limits.{limit-refuses, limit-passes, limit-kept}
 use Rattle.operand.specs.Operand.{cutOperand}
 use Rattle.operand.specs.Refusals.{brokenOperand, fractionRefusal, operandRefusal}
-use Rattle.operand.proofs.Laws.{cut-range}
+use Rattle.operand.proofs.Laws.{cut-normalised}
 use Rattle.operand.proofs.Limits as operand
 use Rattle.operand.proofs.Limits.{operand-refuses, operand-passes, operand-kept}
 use Rattle.interpolation.specs.Reciprocal.{readReciprocal}
@@ -33,8 +31,8 @@ limit-2 c = sym (c .before .broken-limit2 .ensures .0) ∙ c .if2 .left
 -- an operand that keeps them is cut to one of 2k + 3 fraction bits
 cut-is : (k : ℕ) (s : List ℕ) (n X : ℕ) → image.Kept k s → operand.Kept k n X → IsCut k s (cutOperand k n X)
 cut-is k s n X a b =
-    let r = cut-range (2 * k + 3) n (b .enough) X (b .least) (b .below) in
-    record { low = a .low; high = a .high; long = a .long; least = r .0; most = omega (arith, r .1, pow-add 2 (2 * k + 3) 1, pow-add 2 (2 * k) 4, pow-add 2 (2 * k) 3) }
+    let r = cut-normalised k n X (b .enough) (b .least) (b .below) in
+    record { low = a .low; high = a .high; long = a .long; least = r .0; most = r .1 }
 
 broken-limit-requires : tie.Need-broken-limit-requires
 broken-limit-requires c κs = search needs
