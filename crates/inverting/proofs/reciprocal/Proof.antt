@@ -3,6 +3,7 @@
 use mathlib.Core.Path.{_≡_, sym, ap, _∙_}
 use mathlib.Core.List.{List, _∷_}
 use Prim.Native.Nat.{ℕ}
+use native.Mathlib.Omega.{arith}
 use lib.ListN.{length}
 use borrow.Author.Needs.{needs}
 use Rattle.answers.specs.Answer.{reciprocalGiven}
@@ -22,11 +23,11 @@ use Rattle.inverting.proofs.reciprocal.Tie as tie
 
 -- behind the first test k and the image keep their limits
 limit : (c : tie.Else1) → brokenLimit (c .before .before .before .args .k .0) (length (c .before .before .before .args .image .now)) ≡ 0
-limit c = sym (c .before .broken-limit .ensures) ∙ c .if1 .left
+limit c = omega (arith, c .before .broken-limit .ensures, c .if1 .left)
 
 -- behind the second n and X keep theirs
 limit-2 : (c : tie.Else2) → brokenOperand (c .before .before .before .before .before .args .k .0) (c .before .before .before .before .before .args .n) (c .before .before .before .before .before .args .x) ≡ 0
-limit-2 c = sym (c .before .broken-limit2 .ensures .0) ∙ c .if2 .left
+limit-2 c = omega (arith, c .before .broken-limit2 .ensures .0, c .if2 .left)
 
 -- an operand that keeps them is cut to one of 2k + 3 fraction bits
 cut-is : (k : ℕ) (s : List ℕ) (n X : ℕ) → image.Kept k s → operand.Kept k n X → IsCut k s (cutOperand k n X)
@@ -46,7 +47,7 @@ returns c =
     rw p
     (ap reciprocalGiven
     (sym (limit-refuses k s (fractionRefusal k (a .n) ∷ operandRefusal (a .n) (a .x) ∷ cutRefusals k s (cutOperand k (a .n) (a .x))) (readReciprocal k s (cutOperand k (a .n) (a .x)))
-    (λ e. c .if1 .taken (p ∙ e)))))
+    (λ e. omega (arith, c .if1 .taken, p, e)))))
 
 broken-limit-requires-2 : tie.Need-broken-limit-requires-2
 broken-limit-requires-2 c κs = search needs
@@ -61,7 +62,7 @@ returns-2 c =
     rw p
     (ap reciprocalGiven
     (sym (limit-passes k s (fractionRefusal k (a .n) ∷ operandRefusal (a .n) (a .x) ∷ cutRefusals k s t) (readReciprocal k s t) (limit (c .before .before))
-    ∙ operand-refuses k (a .n) (a .x) (cutRefusals k s t) (readReciprocal k s t) (λ e. c .if2 .taken (p ∙ e)))))
+    ∙ operand-refuses k (a .n) (a .x) (cutRefusals k s t) (readReciprocal k s t) (λ e. omega (arith, c .if2 .taken, p, e)))))
 
 cut-requires : tie.Need-cut-requires
 cut-requires c κs = search needs
