@@ -1,6 +1,7 @@
--- The one-ulp bound for tables with a ≥ 2 table guard bits and b ≥ 3 input guard bits: of every cut operand, and of every operand.
+-- The one-ulp bound of operands, by powers of two: for every table of nodes that keeps its laws, with a table and b input guard bits; for
+-- the nodes rounded up, from a = 2 and b = 3 on; and for R of document 01 at every k.
 -- Assumes nothing.
-use mathlib.Core.Path.{_≡_, ap}
+use mathlib.Core.Path.{_≡_, sym, ap, subst}
 use Prim.Native.Nat.{ℕ, _+_, _-_, _*_, _/_, _%_, _^_, _≤_, _<_}
 use native.Mathlib.Nat.{mul-pos}
 use native.Mathlib.Omega.{arith}
@@ -10,7 +11,7 @@ use Rattle.operand.proofs.Laws.{cut-split, cut-rest, cut-range}
 use Rattle.interpolation.specs.Reciprocal.{reciprocal}
 use Rattle.interpolation.proofs.Core as core
 use Rattle.interpolation.proofs.Table as table
-use Rattle.interpolation.proofs.Table.{Table, numeratorOf}
+use Rattle.interpolation.proofs.Table.{Table}
 use Rattle.interpolation.proofs.Plain.{plain}
 use Rattle.interpolation.proofs.Powers as powers
 
@@ -19,15 +20,12 @@ longer : (k b : ℕ) → 2 ^ (2 * k + (b + 1)) ≡ 2 ^ (2 * k + b + 1)
 longer k b = ap (λ (e : ℕ). 2 ^ e) {x = 2 * k + (b + 1)} {y = 2 * k + b + 1} (omega arith)
 
 module _ (a b k : ℕ) where
-  -- the nodes, P and R, with guard bits
-  abbrev pub guardedNode : ℕ → ℕ
-  guardedNode j = roundedUp (2 ^ (3 * k + (a + 1))) (2 ^ k + j)
+  -- P and R of a cut operand t, by any nodes c
+  abbrev pub productSumBy : (ℕ → ℕ) → ℕ → ℕ
+  productSumBy c t = c (t / 2 ^ (k + b) - 2 ^ k) * 2 ^ (k + b) - (c (t / 2 ^ (k + b) - 2 ^ k) - c (t / 2 ^ (k + b) - 2 ^ k + 1)) * (t % 2 ^ (k + b))
 
-  abbrev pub guardedSum : ℕ → ℕ
-  guardedSum t = guardedNode (t / 2 ^ (k + b) - 2 ^ k) * 2 ^ (k + b) - (guardedNode (t / 2 ^ (k + b) - 2 ^ k) - guardedNode (t / 2 ^ (k + b) - 2 ^ k + 1)) * (t % 2 ^ (k + b))
-
-  abbrev pub guardedReciprocal : ℕ → ℕ
-  guardedReciprocal t = guardedSum t / 2 ^ (k + (a + b))
+  abbrev pub reciprocalBy : (ℕ → ℕ) → ℕ → ℕ
+  reciprocalBy c t = productSumBy c t / 2 ^ (k + (a + b))
 
   -- N
   abbrev exactAt : ℕ
@@ -37,22 +35,20 @@ module _ (a b k : ℕ) where
   exact-positive =
       mul-pos (mul-pos (omega arith) (pow-pos b)) (mul-pos (mul-pos (mul-pos (pow-pos k) (pow-pos k)) (pow-pos k)) (pow-pos k))
 
-  module _ (units : 2 ≤ a) (steps : 3 ≤ b) where
-    nodes : Table (2 ^ a) (2 ^ b) (2 ^ k) (λ (j : ℕ). roundedUp (numeratorOf (2 ^ a) (2 ^ k)) (2 ^ k + j)) (λ (j : ℕ). 1) (λ (j : ℕ). 2 ^ a - 1)
-    nodes = plain (2 ^ a) (2 ^ b) (2 ^ k) (pow-mono units) (pow-mono steps) (pow-pos k)
-
+  -- nodes that keep the laws
+  module _ {c H D : ℕ → ℕ} (nodes : Table (2 ^ a) (2 ^ b) (2 ^ k) c H D) where
     -- of a cut operand
-    pub cut-low : (t : ℕ) → 2 ^ (2 * k + b) ≤ t → t < 2 ^ (2 * k + (b + 1)) → exactAt < (guardedReciprocal t + 1) * t
+    pub cut-low : (t : ℕ) → 2 ^ (2 * k + b) ≤ t → t < 2 ^ (2 * k + (b + 1)) → exactAt < (reciprocalBy c t + 1) * t
     cut-low t l m =
-        rw (powers.numerator k a b, powers.unit k a b, powers.width k a b)
+        rw (powers.unit k a b, powers.width k a b)
         (table.bound-low nodes t (rw (powers.least k a b) at l) (rw (powers.most k a b) at m))
 
-    pub cut-high : (t : ℕ) → 2 ^ (2 * k + b) ≤ t → t < 2 ^ (2 * k + (b + 1)) → guardedReciprocal t * (t + 1) ≤ exactAt + (t + 1)
+    pub cut-high : (t : ℕ) → 2 ^ (2 * k + b) ≤ t → t < 2 ^ (2 * k + (b + 1)) → reciprocalBy c t * (t + 1) ≤ exactAt + (t + 1)
     cut-high t l m =
-        rw (powers.numerator k a b, powers.unit k a b, powers.width k a b)
+        rw (powers.unit k a b, powers.width k a b)
         (table.bound-high nodes t (rw (powers.least k a b) at l) (rw (powers.most k a b) at m))
 
-    -- of an operand X with n fraction bits
+    -- of an operand X with n fraction bits, which is t × 2^(n-2k-b) and a rest
     module _ (n X : ℕ) (enough : 2 * k + b ≤ n) (least : 2 ^ n ≤ X) (below : X < 2 ^ (n + 1)) where
       abbrev t : ℕ
       t = X / 2 ^ (n - (2 * k + b))
@@ -66,20 +62,28 @@ module _ (a b k : ℕ) where
       to : t < 2 ^ (2 * k + (b + 1))
       to = rw (longer k b) (cut-range (2 * k + b) n enough X least below .1)
 
-      pub guarded-low : 2 ^ (n + 2 * k + 1) < guardedReciprocal t * X + X
-      guarded-low =
+      pub operand-low : 2 ^ (n + 2 * k + 1) < reciprocalBy c t * X + X
+      operand-low =
           rw (powers.exact k a b n enough)
-          (rw (cut-split (2 * k + b) n enough X) at (core.operand-low exactAt (guardedReciprocal t) t S (X % S) (cut-low t from to) (cut-rest (2 * k + b) n enough X)))
+          (rw (cut-split (2 * k + b) n enough X) at (core.operand-low exactAt (reciprocalBy c t) t S (X % S) (cut-low t from to) (cut-rest (2 * k + b) n enough X)))
 
-      pub guarded-high : guardedReciprocal t * X < 2 ^ (n + 2 * k + 1) + X
-      guarded-high =
+      pub operand-high : reciprocalBy c t * X < 2 ^ (n + 2 * k + 1) + X
+      operand-high =
           rw (powers.exact k a b n enough)
-          (rw (cut-split (2 * k + b) n enough X) at (core.operand-high exactAt t S (X % S) (guardedReciprocal t) exact-positive (cut-high t from to) (cut-rest (2 * k + b) n enough X)))
+          (rw (cut-split (2 * k + b) n enough X) at (core.operand-high exactAt t S (X % S) (reciprocalBy c t) exact-positive (cut-high t from to) (cut-rest (2 * k + b) n enough X)))
+
+-- the nodes of document 01's construction with a table guard bits keep the laws
+pub rounded-up : (a b k : ℕ) → 2 ≤ a → 3 ≤ b → Table (2 ^ a) (2 ^ b) (2 ^ k) (λ (j : ℕ). roundedUp (2 ^ (3 * k + (a + 1))) (2 ^ k + j)) (λ (j : ℕ). 1) (λ (j : ℕ). 2 ^ a - 1)
+rounded-up a b k units steps =
+    subst
+    (λ (M : ℕ). Table (2 ^ a) (2 ^ b) (2 ^ k) (λ (j : ℕ). roundedUp M (2 ^ k + j)) (λ (j : ℕ). 1) (λ (j : ℕ). 2 ^ a - 1))
+    (sym (powers.numerator k a b))
+    (plain (2 ^ a) (2 ^ b) (2 ^ k) (pow-mono units) (pow-mono steps) (pow-pos k))
 
 -- at two table and three input guard bits: R of every k
 module _ (k n X : ℕ) (enough : 2 * k + 3 ≤ n) (least : 2 ^ n ≤ X) (below : X < 2 ^ (n + 1)) where
   pub reciprocal-low : 2 ^ (n + 2 * k + 1) < reciprocal k n X * X + X
-  reciprocal-low = guarded-low 2 3 k (omega arith) (omega arith) n X enough least below
+  reciprocal-low = operand-low 2 3 k (rounded-up 2 3 k (omega arith) (omega arith)) n X enough least below
 
   pub reciprocal-high : reciprocal k n X * X < 2 ^ (n + 2 * k + 1) + X
-  reciprocal-high = guarded-high 2 3 k (omega arith) (omega arith) n X enough least below
+  reciprocal-high = operand-high 2 3 k (rounded-up 2 3 k (omega arith) (omega arith)) n X enough least below

@@ -1,4 +1,4 @@
--- The laws of a cut operand at every k: where it lies, how large P and R are, and what the words of a buffer give for it.
+-- The laws of a cut operand at every k: where it lies, and how large P and R are.
 -- Assumes nothing.
 use mathlib.Core.Path.{_≡_, sym, ap, _∙_}
 use Prim.Native.Nat.{ℕ, _+_, _-_, _*_, _^_, _≤_, _<_}

@@ -10,11 +10,11 @@ module _ (k a b : ℕ) where
   pub width : 2 ^ (k + b) ≡ 2 ^ b * 2 ^ k
   width = omega (arith, pow-add 2 k b)
 
-  -- the steps of t to an ulp
+  -- G, the units of P to an ulp
   pub unit : 2 ^ (k + (a + b)) ≡ 2 ^ a * (2 ^ b * 2 ^ k)
   unit = pow-add 2 k (a + b) ∙ omega (arith, ap (λ (x : ℕ). 2 ^ k * x) (pow-add 2 a b))
 
-  -- three times K
+  -- K cubed
   cubed : 2 ^ (3 * k) ≡ 2 ^ k * 2 ^ k * 2 ^ k
   cubed =
       ap (λ (e : ℕ). 2 ^ e) {x = 3 * k} {y = k + k + k} (omega arith) ∙ pow-add 2 (k + k) k ∙ ap (λ (x : ℕ). x * 2 ^ k) (pow-add 2 k k)

@@ -4,13 +4,15 @@
 -- For each call: its number is r exactly when refusal r applies and no earlier one does, and 0 exactly when none does; a call that is
 -- turned back has the value 0, and place 0 but under 6; a served one has place 0. Nothing is assumed of k, of the buffer s, of j, n or X, but
 -- for the bytes of a word that is shown. Only the builder is lent a buffer that it can write to: the others leave every byte by their types.
-use mathlib.Core.Path.{_≡_, _∙_}
+use mathlib.Core.Path.{_≡_, refl, _∙_}
 use mathlib.Core.Logic.{_↔_, _⊎_}
 use mathlib.Core.List.{List, [], _∷_}
 use Prim.Native.Nat.{ℕ, _+_, _-_, _*_, _/_, _^_, _≤_, _<_}
 use lib.Dec.{T}
 use lib.ListN.{length, drop, getD}
+use denote.Ref.{RefT, now}
 use Rattle.precision.specs.Precision.{imageLength}
+use Rattle.precision.specs.declared.Precision.{Precision}
 use Rattle.nodes.specs.Nodes.{node, decode}
 use Rattle.answers.proofs.Order.{isOneOf, listed, avoided, first, later, placed, value-of-0, refused-value, served-value}
 use Rattle.image.specs.Image.{wordOf}
@@ -20,6 +22,7 @@ use Rattle.operand.specs.Operand.{cutOperand}
 use Rattle.interpolation.specs.Algorithm.{nodeNumber}
 use Rattle.interpolation.specs.Reciprocal.{readReciprocal}
 use Rattle.interpolation.specs.Calls.{reciprocalRefusals, reciprocalOutcome}
+use Rattle.binding.specs.Bound.{bound}
 use Rattle.statements.specs.Terms.{IsPrecision, IsLongEnough, IsRightAt, IsFractionCount, IsNormalised}
 use Rattle.statements.proofs.Iff.{joined, both, row3, row4, same, some-wrong, none-wrong}
 use Rattle.statements.proofs.Built.{left-as-found, built-rest, built-as-long}
@@ -187,6 +190,15 @@ module _ (k : ℕ) (s : List ℕ) (n X : ℕ) where
 
   pub reciprocal-served-place : reciprocalOutcome k s n X .number ≡ 0 → reciprocalOutcome k s n X .place ≡ 0
   reciprocal-served-place e = served-value (reciprocalRefusals k s n X) (readReciprocal k s (cutOperand k n X)) tt e .0
+
+-- Through a bound table. Making one has no number and refuses nothing; a node and the reciprocal through it are what the plain calls give for
+-- its precision and image, so that all that is said above of these calls is said of them through a table.
+module _ (k : Precision) (image : RefT (List ℕ)) where
+  pub bound-node : (j : ℕ) → nodeOutcome (bound k image .k .0) (now (bound k image .image)) j ≡ nodeOutcome (k .0) (now image) j
+  bound-node j = refl
+
+  pub bound-reciprocal : (n X : ℕ) → reciprocalOutcome (bound k image .k .0) (now (bound k image .image)) n X ≡ reciprocalOutcome (k .0) (now image) n X
+  bound-reciprocal n X = refl
 
 -- Showing the bytes of one word. That call has no numbers.
 module _ (k : ℕ) (s : List ℕ) (j : ℕ) where
