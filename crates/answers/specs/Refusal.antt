@@ -28,3 +28,8 @@ served v = record { number = 0; place = 0; value = v }
 abbrev pub outcome : List Refusal → ℕ → Outcome
 outcome [] v = served v
 outcome (r ∷ rs) v = cond (r .applies) (turnedBack r) (outcome rs v)
+
+-- the number of the first refusal of the list that applies, and 0 where none does
+abbrev pub firstNumber : List Refusal → ℕ
+firstNumber [] = 0
+firstNumber (r ∷ rs) = cond (r .applies) (r .number) (firstNumber rs)

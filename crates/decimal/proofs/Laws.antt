@@ -140,10 +140,6 @@ pub value-decimal : (n : ℕ) → n < 10 ^ 20 → decimalValue (decimal n) ≡ n
 unfolding decimal
 value-decimal n h = digits-value 20 n h
 
--- a number of 64 bits that was written is read back
-pub reading-decimal : (n : ℕ) → n < 2 ^ 64 → reading (decimal n) ≡ Number n
-reading-decimal n h = rw (decimal-digits n, value-decimal n (omega arith), lt-ltb n (2 ^ 64) h)
-
 -- digits after v stand for v at least
 pub value-from : (v : ℕ) (s : List ℕ) → v ≤ valueFrom v s
 value-from v [] = omega arith

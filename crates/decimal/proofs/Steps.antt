@@ -28,9 +28,6 @@ pub reading-some : (s : List ℕ) → (length s ≡ 0 → ⊥) → reading s ≡
 reading-some [] h = absurd (h refl)
 reading-some (b ∷ s) h = refl
 
-pub from-end : (v : ℕ) → v < 2 ^ 64 → readingFrom v [] ≡ Number v
-from-end v h = rw (lt-ltb v (2 ^ 64) h)
-
 -- a value that is too large stays too large
 from-over : (v : ℕ) (s : List ℕ) → 2 ^ 64 ≤ v → readingFrom v s ≡ Other
 from-over v s h = rw (le-ltb (valueFrom v s) (2 ^ 64) (omega (arith, value-from v s))) (other (allDigits s))

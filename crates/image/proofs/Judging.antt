@@ -20,7 +20,7 @@ use Rattle.answers.specs.Refusal.{outcome, served}
 use Rattle.image.specs.Image.{wordOf, isWrongWord, isWrong, judgedWord}
 use Rattle.image.specs.Refusals.{nodeRefusal, wordRefusal}
 use Rattle.image.proofs.Laws.{word-in-buffer}
-use Rattle.image.proofs.Limits.{Kept}
+use Rattle.image.proofs.Limits.{ImageKept}
 
 -- word j of w bits, which is 0 when judged exactly when it is not M / (first + j) rounded up, less its leading one
 module _ (s : List ℕ) (w M first lead j : ℕ) (one : 1 ≤ w) (wide : w ≤ 32) (there : j * w + w ≤ 8 * length s) (judges : (word : ℕ) → word < 2 ^ w → eqb (judged M first lead j word) 0 ≡ not (eqb word (roundedUp M (first + j) % 2 ^ w))) where
@@ -34,7 +34,7 @@ module _ (s : List ℕ) (w M first lead j : ℕ) (one : 1 ≤ w) (wide : w ≤ 3
   word-not-0 f = sym judged-test ∙ ne-eqb (judgedWord s w M first lead j) 0 f
 
 -- the word of node j of a precision
-module _ (k : ℕ) (s : List ℕ) (j : ℕ) (kept : Kept k s) (h : j < 2 ^ k) where
+module _ (k : ℕ) (s : List ℕ) (j : ℕ) (kept : ImageKept k s) (h : j < 2 ^ k) where
   abbrev judgedNode : ℕ
   judgedNode = judgedWord s (wordWidth k) (2 ^ (3 * k + 3)) (2 ^ k) (2 ^ (2 * k + 2)) j
 

@@ -9,14 +9,13 @@ use native.Mathlib.Omega.{arith}
 use lib.Pow.{pow-pos}
 use lib.ListN.{length, take, length-append, length-drop}
 use lib.Seq.{take-at}
-use borrow.Author.Tests.{eq-eqb, eqb-true, le-leb, not-false}
+use borrow.Author.Tests.{eq-eqb, eqb-true, not-false}
 use Rattle.precision.specs.Precision.{wordWidth, wordCount, imageLength}
 use Rattle.nodes.specs.Nodes.{node, storedWord, isRight}
-use Rattle.packing.specs.Packing.{Bytes, byteCount, fillBits, wordRead, widest}
+use Rattle.packing.specs.Packing.{Bytes, byteCount, fillBits}
 use Rattle.packing.proofs.Image.{length-packedBytes, bytes-packedBytes, packed-word, word-of-front, words-front}
 use Rattle.packing.proofs.Words.{word-within}
-use Rattle.image.specs.Image.{image, afterImage, builtBuffer, wordOf, isWrong, firstWrong}
-use Rattle.image.proofs.Lowest.{lowest-none}
+use Rattle.image.specs.Image.{image, afterImage, builtBuffer, wordOf, isWrong}
 
 -- the image takes whole bytes
 pub whole-bytes : (k : ℕ) → 1 ≤ k → 8 * imageLength k ≡ wordCount k * wordWidth k
@@ -73,15 +72,6 @@ module _ (k : ℕ) (one : 1 ≤ k) where
   pub word-in-buffer : (s : List ℕ) (j : ℕ) → imageLength k ≤ length s → j < wordCount k → j * wordWidth k + wordWidth k ≤ 8 * length s
   word-in-buffer s j h l = omega (arith, word-within (wordWidth k) (wordCount k) j l, whole-bytes k one)
 
-  -- so it is read as it stands
-  pub word-read : (s : List ℕ) (j : ℕ) → k ≤ 12 → imageLength k ≤ length s → j < wordCount k → wordRead (wordWidth k) s j ≡ wordOf k s j
-  word-read s j top h l =
-      simp (
-        le-leb 1 (wordWidth k) (omega arith),
-        le-leb (wordWidth k) widest (omega arith),
-        le-leb (j * wordWidth k + wordWidth k) (8 * length s) (word-in-buffer s j h l),
-      )
-
   -- a buffer whose words are right starts with the image, and the other way round
   pub right-front : (s : List ℕ) → Bytes s → imageLength k ≤ length s → ((j : ℕ) → j < wordCount k → wordOf k s j ≡ storedWord k j) → take (imageLength k) s ≡ image k
   right-front s b h r =
@@ -93,10 +83,3 @@ module _ (k : ℕ) (one : 1 ≤ k) where
       word-of-front (wordWidth k) (storedWord k) (wordCount k) j s (omega arith) (λ i m. stored-lt k i)
       (ap (λ (n : ℕ). take n s) byte-count ∙ e)
       l
-
--- no word of a buffer that was built is wrong
-pub built-right : (k : ℕ) (s : List ℕ) (j : ℕ) → j < wordCount k → isWrong k (builtBuffer k s) j ≡ false
-built-right k s j h = right-not-wrong k (builtBuffer k s) j (image-word k j (afterImage k s) h)
-
-pub built-none-wrong : (k : ℕ) (s : List ℕ) → firstWrong k (builtBuffer k s) ≡ wordCount k
-built-none-wrong k s = lowest-none (isWrong k (builtBuffer k s)) (wordCount k) (built-right k s)

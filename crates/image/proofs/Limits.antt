@@ -1,10 +1,9 @@
 -- What the limits of k and the buffer mean for every list of refusals that begins with them.
 -- Assumes nothing.
 use mathlib.Core.Path.{_≡_, refl}
-use mathlib.Core.Bool.{Bool, true, false, not, _||_, true≢false}
-use mathlib.Core.List.{List, _∷_}
+use mathlib.Core.Bool.{Bool, true, false, cond, not, _||_, true≢false}
+use mathlib.Core.List.{List, [], _∷_}
 use Prim.Native.Nat.{ℕ, _+_, _*_, _^_, _≤_}
-use native.Mathlib.Omega.{arith}
 use lib.Dec.{ltb}
 use lib.ListN.{length}
 use borrow.Author.Tests.{ltb-false, le-ltb, not-false}
@@ -12,12 +11,12 @@ use Rattle.precision.specs.Precision.{inRange, imageLength, wordsOr0}
 use Rattle.precision.proofs.Range.{in-range, range-in, words-in-range}
 use Rattle.nodes.specs.Nodes.{numeratorOr0, leadOr0}
 use Rattle.answers.specs.Refusal.{Refusal, outcome}
-use Rattle.answers.proofs.Pair.{numberOf, limited, pair-refuses, pair-passes, pair-none}
+use Rattle.answers.proofs.Front.{limited, front-refuses, front-passes, front-none}
 use Rattle.image.specs.Refusals.{precisionRefusal, bufferRefusal, brokenLimit}
 use Rattle.image.specs.Calls.{noImage}
 
--- both limits are kept: k is a precision and the buffer is long enough
-pub record Kept (k : ℕ) (s : List ℕ) : Type 0 where
+-- both limits are kept: k is a precision and the buffer is long enough; so the numbers that the code has of k are powers
+pub record ImageKept (k : ℕ) (s : List ℕ) : Type 0 where
   pub low : 1 ≤ k
   pub high : k ≤ 12
   pub long : imageLength k ≤ length s
@@ -25,36 +24,36 @@ pub record Kept (k : ℕ) (s : List ℕ) : Type 0 where
   pub numerator : numeratorOr0 k ≡ 2 ^ (3 * k + 3)
   pub lead : leadOr0 k ≡ 2 ^ (2 * k + 2)
 
--- the same by the tests of the two limits
-broken-of : (a b : Bool) → (numberOf 1 2 a b ≡ 0 → ⊥) → (a || b) ≡ true
+-- a number that is not 0 says that a limit is broken, and where none is broken it is 0
+broken-of : (a b : Bool) → (_≡_ {A = ℕ} (cond a 1 (cond b 2 0)) 0 → ⊥) → (a || b) ≡ true
 broken-of true b h = refl
 broken-of false true h = refl
 broken-of false false h = absurd (h refl)
 
-none-of : (r b : Bool) → (not r || b) ≡ false → numberOf 1 2 (not r) b ≡ 0
-none-of true true e = absurd (true≢false e)
-none-of true false e = refl
-none-of false b e = absurd (true≢false e)
+none-of : (a b : Bool) → (a || b) ≡ false → _≡_ {A = ℕ} (cond a 1 (cond b 2 0)) 0
+none-of true b e = absurd (true≢false e)
+none-of false true e = absurd (true≢false e)
+none-of false false e = refl
 
 module _ (k : ℕ) (s : List ℕ) where
   -- a broken limit turns every call back
   pub limit-refuses : (rs : List Refusal) (v : ℕ) → (brokenLimit k (length s) ≡ 0 → ⊥) → outcome (precisionRefusal k ∷ bufferRefusal k s ∷ rs) v ≡ limited (brokenLimit k (length s))
-  limit-refuses rs v = pair-refuses 1 2 (not (inRange k)) (ltb (length s) (imageLength k)) rs v
+  limit-refuses rs v = front-refuses rs v (precisionRefusal k ∷ bufferRefusal k s ∷ []) tt
 
   pub limit-no-image : (brokenLimit k (length s) ≡ 0 → ⊥) → noImage k s ≡ true
   limit-no-image = broken-of (not (inRange k)) (ltb (length s) (imageLength k))
 
   -- where both are kept the later refusals decide
   pub limit-passes : (rs : List Refusal) (v : ℕ) → brokenLimit k (length s) ≡ 0 → outcome (precisionRefusal k ∷ bufferRefusal k s ∷ rs) v ≡ outcome rs v
-  limit-passes rs v = pair-passes 1 2 (omega arith) (omega arith) (not (inRange k)) (ltb (length s) (imageLength k)) rs v
+  limit-passes rs v = front-passes rs v (precisionRefusal k ∷ bufferRefusal k s ∷ []) tt
 
   -- and the tests have failed
   kept : brokenLimit k (length s) ≡ 0 → (inRange k ≡ true) × (ltb (length s) (imageLength k) ≡ false)
   kept h =
-      let e = pair-none 1 2 (omega arith) (omega arith) (not (inRange k)) (ltb (length s) (imageLength k)) h in
-      (not-false (inRange k) (e .0), e .1)
+      let first = front-none (precisionRefusal k) (bufferRefusal k s ∷ []) tt h in
+      (not-false (inRange k) (first .0), front-none (bufferRefusal k s) [] tt (first .1) .0)
 
-  pub limit-kept : brokenLimit k (length s) ≡ 0 → Kept k s
+  pub limit-kept : brokenLimit k (length s) ≡ 0 → ImageKept k s
   limit-kept h =
       let e = kept h in
       record {
@@ -75,4 +74,4 @@ module _ (k : ℕ) (s : List ℕ) where
 
   -- where there is an image both limits are kept
   pub image-limit : noImage k s ≡ false → brokenLimit k (length s) ≡ 0
-  image-limit = none-of (inRange k) (ltb (length s) (imageLength k))
+  image-limit = none-of (not (inRange k)) (ltb (length s) (imageLength k))

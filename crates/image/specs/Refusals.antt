@@ -1,12 +1,12 @@
 -- The refusals of the calls on an image, each a definition of its own (document 01, "Turned back, in checking order").
 -- Assumes nothing.
 use Prim.Native.Nat.{ℕ}
-use mathlib.Core.Bool.{Bool, cond, not, _&&_}
-use mathlib.Core.List.{List}
+use mathlib.Core.Bool.{Bool, not, _&&_}
+use mathlib.Core.List.{List, [], _∷_}
 use lib.Dec.{ltb}
 use lib.ListN.{length}
 use Rattle.precision.specs.Precision.{inRange, imageLength, lastNode, wordCount}
-use Rattle.answers.specs.Refusal.{Refusal}
+use Rattle.answers.specs.Refusal.{Refusal, firstNumber}
 use Rattle.image.specs.Image.{isWrong, firstWrong}
 
 -- the precision is below 1 or above 12
@@ -21,13 +21,16 @@ isTooShort k n = ltb n (imageLength k)
 abbrev pub precisionRefusal : ℕ → Refusal
 precisionRefusal k = record { applies = isOutOfRange k; number = 1; place = 0 }
 
--- 2: the image buffer is shorter than the image length for k
+-- 2: the image buffer, of n bytes, is shorter than the image length for k
+abbrev pub lengthRefusal : ℕ → ℕ → Refusal
+lengthRefusal k n = record { applies = isTooShort k n; number = 2; place = 0 }
+
 abbrev pub bufferRefusal : ℕ → List ℕ → Refusal
-bufferRefusal k s = record { applies = isTooShort k (length s); number = 2; place = 0 }
+bufferRefusal k s = lengthRefusal k (length s)
 
 -- the number of the first of these two that applies to k and a buffer of n bytes, 0 where neither does
 abbrev pub brokenLimit : ℕ → ℕ → ℕ
-brokenLimit k n = cond (isOutOfRange k) 1 (cond (isTooShort k n) 2 0)
+brokenLimit k n = firstNumber (precisionRefusal k ∷ lengthRefusal k n ∷ [])
 
 -- 3: the node number is above 2^k
 abbrev pub nodeRefusal : ℕ → ℕ → Refusal

@@ -33,10 +33,6 @@ module _ (k t : ℕ) (least : 2 ^ (2 * k + 3) ≤ t) (most : t < 2 ^ (2 * k + 4)
   pub cut-number-below : nodeNumber k t < 2 ^ k
   cut-number-below = pieces.number-below (2 ^ k) (2 ^ (k + 3)) t (pow-pos (k + 3)) from to
 
-  -- t = i × 2^(k+3) + f
-  pub cut-parts : (2 ^ k + nodeNumber k t) * 2 ^ (k + 3) + fraction k t ≡ t
-  cut-parts = pieces.parts (2 ^ k) (2 ^ (k + 3)) t (pow-pos (k + 3)) from to
-
 -- f is below 2^(k+3) at every t
 pub cut-fraction-below : (k t : ℕ) → fraction k t < 2 ^ (k + 3)
 cut-fraction-below k t = mod-lt t (pow-pos (k + 3))

@@ -40,7 +40,7 @@ module _ (A B K : ℕ) (units : 4 ≤ A) (steps : 8 ≤ B) (some : 0 < K) where
         steps = omega arith;
         some = some;
         falls = λ j h. antitone (numeratorOf A K) {i = K + j} {i' = K + (j + 1)} (omega arith) (omega arith);
-        above = λ j. reaches (numeratorOf A K) (K + j) (omega arith);
+        above = λ j h. reaches (numeratorOf A K) (K + j) (omega arith);
         left = λ j h. high (K + j) (omega arith);
         right = λ j h. rw add-assoc (high (K + (j + 1)) (omega arith));
         excess = λ j h. omega arith;

@@ -4,7 +4,7 @@
 -- Assumes nothing.
 use mathlib.Core.Path.{_≡_, ap}
 use Prim.Native.Nat.{ℕ, _+_, _-_, _*_, _/_, _%_, _≤_, _<_}
-use native.Mathlib.Nat.{add-assoc, mul-pos, mul-le-mul-left, div-mul-le-self, lt-div-mul-add}
+use native.Mathlib.Nat.{add-assoc, le-of-lt, mul-pos, mul-le-mul-left, div-mul-le-self, lt-div-mul-add}
 use native.Mathlib.Omega.{arith}
 use Rattle.interpolation.proofs.Core as core
 use Rattle.interpolation.proofs.Pieces as pieces
@@ -19,7 +19,7 @@ pub record Table (A B K : ℕ) (c H D : ℕ → ℕ) : Type 0 where
   pub steps : 0 < B
   pub some : 0 < K
   pub falls : (j : ℕ) → j < K → c (j + 1) ≤ c j
-  pub above : (j : ℕ) → numeratorOf A K ≤ c j * (K + j)
+  pub above : (j : ℕ) → j ≤ K → numeratorOf A K ≤ c j * (K + j)
   pub left : (j : ℕ) → j < K → c j * (K + j) ≤ numeratorOf A K + H j * (K + j)
   pub right : (j : ℕ) → j < K → c (j + 1) * (K + j + 1) ≤ numeratorOf A K + H j * (K + j + 1)
   pub excess : (j : ℕ) → j < K → H j + D j ≡ A
@@ -98,7 +98,7 @@ module _ {A B K : ℕ} {c H D : ℕ → ℕ} (table : Table A B K c H D) (t : �
       (omega (arith, lt-div-mul-add {a = productSumAt} unit))
       (rw (exact A B K)
       (low-at (numeratorOf A K) (K + j) (c j) (c (j + 1)) (B * K) f (B * K - f) t productSumAt whole (pieces.parts K (B * K) t wide least most) sum
-      (omega (arith, table .some)) (table .above j) (rw add-assoc (table .above (j + 1)))))
+      (omega (arith, table .some)) (table .above j (le-of-lt below)) (rw add-assoc (table .above (j + 1) (omega (arith, below))))))
 
   -- and from above: R × (t + 1) ≤ N + (t + 1)
   pub bound-high : reciprocalAt * (t + 1) ≤ 2 * B * (K * K * K * K) + (t + 1)

@@ -11,12 +11,12 @@ use borrow.Author.Tests.{lt-ltb, le-ltb, eqb-true, eq-eqb}
 use Rattle.precision.specs.Precision.{wordWidth}
 use Rattle.image.specs.Image.{judgedWord}
 use Rattle.image.specs.Refusals.{wordRefusal}
-use Rattle.image.proofs.Limits.{Kept}
+use Rattle.image.proofs.Limits.{ImageKept}
 use Rattle.image.proofs.Judging.{judged-0, judged-not-0, judged-value}
 use Rattle.interpolation.specs.Reciprocal.{nodeOf}
 use Rattle.inverting.specs.Cut.{judgedNode}
 
-module _ (k : ℕ) (s : List ℕ) (j : ℕ) (kept : Kept k s) where
+module _ (k : ℕ) (s : List ℕ) (j : ℕ) (kept : ImageKept k s) where
   abbrev pub word : ℕ
   word = judgedWord s (wordWidth k) (2 ^ (3 * k + 3)) (2 ^ k) (2 ^ (2 * k + 2)) j
 

@@ -3,14 +3,13 @@
 use mathlib.Core.Path.{_≡_, refl, sym, ap, _∙_}
 use mathlib.Core.Bool.{true, false, cond, not, and-false}
 use Prim.Native.Nat.{ℕ, _+_, _-_, _*_, _%_, _^_, _≤_, _<_}
-use native.Mathlib.Nat.{mod-lt, lt-of-not-le, zero-mul}
 use native.Mathlib.Omega.{arith}
 use lib.Dec.{eqb}
 use lib.Pow.{pow-pos, pow-lt}
 use borrow.Author.Tests.{eq-eqb, ne-eqb, eqb-true, le-leb, lt-leb}
 use Rattle.precision.specs.Precision.{wordWidth, inRange}
-use Rattle.quotient.specs.Quotient.{roundedUp, roundsUp}
-use Rattle.quotient.proofs.Laws.{reaches, antitone}
+use Rattle.quotient.specs.Quotient.{roundedUp}
+use Rattle.quotient.proofs.Laws.{antitone}
 use Rattle.nodes.specs.Nodes.{node, storedWord, decodeUnder, decode, isRight, judged, nodeOr0}
 use Rattle.nodes.proofs.Laws as laws
 use Rattle.nodes.proofs.Laws.{Shape, nodeAt}
@@ -61,17 +60,6 @@ module _ (k : ℕ) where
       rw (node-at j, node-at (j + 1))
       (laws.near shape (2 ^ (k + 3)) (step k 2) (step-wide k 2) j)
 
-  -- no node is 0
-  pub node-positive : (j : ℕ) → 0 < node k j
-  node-positive j =
-      lt-of-not-le (λ (n : node k j ≤ 0).
-      let z : node k j ≡ 0 = omega arith in
-      omega (arith, pow-pos (3 * k + 3), zero-mul (2 ^ k + j), rw z at (reaches (2 ^ (3 * k + 3)) (2 ^ k + j) (omega (arith, pow-pos k)))))
-
-  -- a word has 2k + 2 bits
-  pub stored-word-lt : (j : ℕ) → storedWord k j < 2 ^ wordWidth k
-  stored-word-lt j = mod-lt (node k j) (pow-pos (2 * k + 2))
-
   -- the word of node 0 is zero
   pub stored-word-first : storedWord k 0 ≡ 0
   stored-word-first = rw node-at (laws.word-first shape)
@@ -80,16 +68,6 @@ module _ (k : ℕ) where
   pub stored-word-between : (j : ℕ) → 0 < j → j < 2 ^ k → storedWord k j ≡ node k j - 2 ^ (2 * k + 2)
   stored-word-between j h l =
       rw node-at (laws.word-between shape j h l)
-
-  -- the test by a product alone says whether a word is right
-  pub judge-right : (j word : ℕ) → j < 2 ^ k → word < 2 ^ wordWidth k
-      → roundsUp (2 ^ (3 * k + 3)) (2 ^ k + j) (decodeUnder (2 ^ wordWidth k) j word) ≡ isRight k j word
-  judge-right j word h l =
-      rw (numerator k 2) (laws.judges shape j word h l)
-
-  -- a word of more bits is wrong
-  pub long-word-wrong : (j word : ℕ) → 2 ^ wordWidth k ≤ word → isRight k j word ≡ false
-  long-word-wrong j word h = ne-eqb word (storedWord k j) (λ e. omega (arith, e, stored-word-lt j))
 
   -- node 2^k needs no word
   pub decode-last : (word : ℕ) → decode k (2 ^ k) word ≡ node k (2 ^ k)

@@ -1,19 +1,18 @@
 -- What the limits of n and X mean for every list of refusals that begins with them.
 -- Assumes nothing.
 use mathlib.Core.Path.{_≡_}
-use mathlib.Core.Bool.{true, not, and-eq-true-iff}
-use mathlib.Core.List.{List, _∷_}
+use mathlib.Core.Bool.{true, and-eq-true-iff}
+use mathlib.Core.List.{List, [], _∷_}
 use Prim.Native.Nat.{ℕ, _+_, _*_, _^_, _≤_, _<_}
-use native.Mathlib.Omega.{arith}
 use lib.Dec.{leb, ltb}
 use borrow.Author.Tests.{leb-true, ltb-true, le-leb, lt-ltb, not-false}
 use Rattle.answers.specs.Refusal.{Refusal, outcome}
-use Rattle.answers.proofs.Pair.{limited, pair-refuses, pair-passes, pair-none}
+use Rattle.answers.proofs.Front.{limited, front-refuses, front-passes, front-none}
 use Rattle.operand.specs.Operand.{cutBits, mostBits, isFractionCount, isNormalised}
 use Rattle.operand.specs.Refusals.{fractionRefusal, operandRefusal, brokenOperand}
 
 -- both limits are kept: n is from 2k + 3 to 63, and X is normalised
-pub record Kept (k n X : ℕ) : Type 0 where
+pub record OperandKept (k n X : ℕ) : Type 0 where
   pub enough : 2 * k + 3 ≤ n
   pub most : n ≤ 63
   pub least : 2 ^ n ≤ X
@@ -40,19 +39,19 @@ in-normalised n X l h = simp (le-leb (2 ^ n) X l, lt-ltb X (2 ^ (n + 1)) h)
 module _ (k n X : ℕ) where
   -- a broken limit turns the call back
   pub operand-refuses : (rs : List Refusal) (v : ℕ) → (brokenOperand k n X ≡ 0 → ⊥) → outcome (fractionRefusal k n ∷ operandRefusal n X ∷ rs) v ≡ limited (brokenOperand k n X)
-  operand-refuses = pair-refuses 4 5 (not (isFractionCount k n)) (not (isNormalised n X))
+  operand-refuses rs v = front-refuses rs v (fractionRefusal k n ∷ operandRefusal n X ∷ []) tt
 
   -- where both are kept the later refusals decide
   pub operand-passes : (rs : List Refusal) (v : ℕ) → brokenOperand k n X ≡ 0 → outcome (fractionRefusal k n ∷ operandRefusal n X ∷ rs) v ≡ outcome rs v
-  operand-passes = pair-passes 4 5 (omega arith) (omega arith) (not (isFractionCount k n)) (not (isNormalised n X))
+  operand-passes rs v = front-passes rs v (fractionRefusal k n ∷ operandRefusal n X ∷ []) tt
 
-  pub operand-kept : brokenOperand k n X ≡ 0 → Kept k n X
+  pub operand-kept : brokenOperand k n X ≡ 0 → OperandKept k n X
   operand-kept e =
-      let none = pair-none 4 5 (omega arith) (omega arith) (not (isFractionCount k n)) (not (isNormalised n X)) e in
-      let count = count-in k n (not-false (isFractionCount k n) (none .0)) in
-      let range = normalised-in n X (not-false (isNormalised n X) (none .1)) in
+      let first = front-none (fractionRefusal k n) (operandRefusal n X ∷ []) tt e in
+      let count = count-in k n (not-false (isFractionCount k n) (first .0)) in
+      let range = normalised-in n X (not-false (isNormalised n X) (front-none (operandRefusal n X) [] tt (first .1) .0)) in
       record { enough = count .0; most = count .1; least = range .0; below = range .1 }
 
   -- and an operand in its ranges keeps both
-  pub operand-none : Kept k n X → brokenOperand k n X ≡ 0
+  pub operand-none : OperandKept k n X → brokenOperand k n X ≡ 0
   operand-none o = rw (in-count k n (o .enough) (o .most), in-normalised n X (o .least) (o .below))

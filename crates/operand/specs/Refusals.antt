@@ -1,8 +1,9 @@
 -- The refusals of an operand, each a definition of its own (document 01, "Turned back, in checking order").
 -- Assumes nothing.
 use Prim.Native.Nat.{ℕ}
-use mathlib.Core.Bool.{cond, not}
-use Rattle.answers.specs.Refusal.{Refusal}
+use mathlib.Core.Bool.{not}
+use mathlib.Core.List.{[], _∷_}
+use Rattle.answers.specs.Refusal.{Refusal, firstNumber}
 use Rattle.operand.specs.Operand.{isFractionCount, isNormalised}
 
 -- 4: n is below 2k + 3 or above 63
@@ -15,4 +16,4 @@ operandRefusal n X = record { applies = not (isNormalised n X); number = 5; plac
 
 -- the number of the first of these two that applies, 0 where neither does
 abbrev pub brokenOperand : ℕ → ℕ → ℕ → ℕ
-brokenOperand k n X = cond (not (isFractionCount k n)) 4 (cond (not (isNormalised n X)) 5 0)
+brokenOperand k n X = firstNumber (fractionRefusal k n ∷ operandRefusal n X ∷ [])

@@ -4,11 +4,11 @@
 use Prim.Native.Nat.{ℕ, _+_, _-_, _*_, _/_, _%_, _^_, _≤_, _<_}
 use mathlib.Core.Path.{_≡_, sym, ap, ap₂, _∙_, subst}
 use mathlib.Core.List.{[], _∷_, _++_}
-use native.Mathlib.Nat.{add-comm, add-zero, div-one, mul-one, mod-lt, mul-mod-left, mul-div-mul-right}
+use native.Mathlib.Nat.{add-comm, add-zero, mod-lt, mul-mod-left, mul-div-mul-right}
 use native.Mathlib.Numerals.{add-one}
 use native.Mathlib.Omega.{arith}
 use lib.Pow.{pow-pos, pow-add, high, low, shl-lt, shl-shr, shr-shr, field, mod-pow-add, mod-mod-pow}
-use Rattle.packing.specs.Packing.{packed, toBytes, byteCount, fillBits, packedBytes}
+use Rattle.packing.specs.Packing.{toBytes}
 
 -- a word v of w bits is taken: the bytes stay, and the bits that wait are followed by the word
 pub take-high : (p v w left : ℕ) → v < 2 ^ w → (p * 2 ^ w + v) / 2 ^ (left + w) ≡ p / 2 ^ left
@@ -72,25 +72,3 @@ last-small p left h =
   where
     e : left + (8 - left) ≡ 8
     e = omega arith
-
--- all n words taken and no bit waits: the bytes are the packed words
-pub done-even : (w : ℕ) (f : ℕ → ℕ) (n at : ℕ) → 8 * at ≡ n * w → toBytes at (packed w f n / 2 ^ 0) ≡ packedBytes w f n
-done-even w f n at e = ap₂ toBytes full (div-one (packed w f n) ∙ sym (mul-one (packed w f n)) ∙ ap (λ (x : ℕ). packed w f n * 2 ^ x) none)
-  where
-    full : at ≡ byteCount w n
-    full = omega arith
-
-    none : 0 ≡ fillBits w n
-    none = omega arith
-
--- all n words taken and fewer than 8 bits wait: with the last byte they are the packed words
-pub done-filled : (w : ℕ) (f : ℕ → ℕ) (n at left : ℕ) → 8 * at + left ≡ n * w → 0 < left → left < 8
-    → toBytes at (packed w f n / 2 ^ left) ++ ((packed w f n % 2 ^ left) * 2 ^ (8 - left) ∷ []) ≡ packedBytes w f n
-done-filled w f n at left e pos h =
-    sym (give-last at (packed w f n) left h) ∙ ap₂ (λ (x y : ℕ). toBytes x (packed w f n * 2 ^ y)) full fill
-  where
-    full : at + 1 ≡ byteCount w n
-    full = omega arith
-
-    fill : 8 - left ≡ fillBits w n
-    fill = omega arith

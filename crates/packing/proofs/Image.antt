@@ -8,7 +8,7 @@ use native.Mathlib.Omega.{arith}
 use lib.ListN.{getD, length, take, drop, take-append-drop, List·getD-append}
 use lib.Pow.{split, shl-lt, shl-shr, shr-lt, shr-shr}
 use Rattle.packing.specs.Packing.{packed, toBytes, byteCount, fillBits, packedBytes, bytesValue, Bytes, wordAt}
-use Rattle.packing.proofs.Numbers.{packed-lt, packed-ext, packed-digit, packed-unique}
+use Rattle.packing.proofs.Numbers.{packed-lt, packed-digit, packed-unique}
 use Rattle.packing.proofs.Bytes.{length-toBytes, bytes-toBytes, value-lt, value-toBytes-exact, toBytes-value}
 use Rattle.packing.proofs.Words.{word-is-digit-below, word-is-digit, word-within, count-holds, count-fill}
 
@@ -19,10 +19,6 @@ length-packedBytes w f n = length-toBytes (byteCount w n) (packed w f n * 2 ^ fi
 -- and they are bytes
 pub bytes-packedBytes : (w : ℕ) (f : ℕ → ℕ) (n : ℕ) → Bytes (packedBytes w f n)
 bytes-packedBytes w f n = bytes-toBytes (byteCount w n) (packed w f n * 2 ^ fillBits w n)
-
--- words that agree make the same bytes
-pub packedBytes-ext : (w : ℕ) (f g : ℕ → ℕ) (n : ℕ) → ((j : ℕ) → j < n → f j ≡ g j) → packedBytes w f n ≡ packedBytes w g n
-packedBytes-ext w f g n h = ap (λ (x : ℕ). toBytes (byteCount w n) (x * 2 ^ fillBits w n)) (packed-ext w f g n h)
 
 -- the number that the bytes of packed words make, whatever follows them: the words and the filling
 pub value-packedBytes : (w : ℕ) (f : ℕ → ℕ) (n : ℕ) (t : List ℕ) → ((i : ℕ) → i < n → f i < 2 ^ w)

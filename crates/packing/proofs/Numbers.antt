@@ -2,7 +2,7 @@
 -- Assumes nothing.
 use Prim.Native.Nat.{ℕ, zero, suc, _+_, _-_, _*_, _/_, _%_, _^_, _<_}
 use mathlib.Core.Path.{_≡_, refl, sym, ap, ap₂, _∙_}
-use native.Mathlib.Nat.{le-refl, le-step, add-zero, add-suc, suc-mul, zero-mul, mul-one, mod-eq-of-lt, mod-one, div-one}
+use native.Mathlib.Nat.{le-refl, le-step, add-zero, add-suc, suc-mul, zero-mul, mul-one, mod-one, div-one}
 use native.Mathlib.Omega.{arith}
 use lib.Arith.{digits-lt}
 use lib.Pow.{pow-pos, pow-add, high, low, shr-shr, mod-pow-add}
@@ -88,9 +88,3 @@ pub packed-unique : (w : ℕ) (f : ℕ → ℕ) (n v : ℕ) → ((j : ℕ) → j
     → v % 2 ^ (n * w) ≡ packed w f n
 packed-unique w f n v h =
     sym (packed-of-digits w v n) ∙ packed-ext w (λ (j : ℕ). v / 2 ^ ((n - 1 - j) * w) % 2 ^ w) f n h
-
--- two numbers of n × w bits with the same digits are equal
-pub digits-equal : (w n u v : ℕ) → u < 2 ^ (n * w) → v < 2 ^ (n * w)
-    → ((j : ℕ) → j < n → u / 2 ^ ((n - 1 - j) * w) % 2 ^ w ≡ v / 2 ^ ((n - 1 - j) * w) % 2 ^ w) → u ≡ v
-digits-equal w n u v hu hv h =
-    sym (mod-eq-of-lt hu) ∙ packed-unique w (λ (j : ℕ). v / 2 ^ ((n - 1 - j) * w) % 2 ^ w) n u h ∙ packed-of-digits w v n ∙ mod-eq-of-lt hv

@@ -32,10 +32,6 @@ read-there w s j one wide there = rw (le-leb 1 w one, le-leb w widest wide, le-l
 pub past-last : (w j : ℕ) → 1 ≤ w → (j * w + w + 7) / 8 ≡ lastByte w j + 1
 past-last w j one = omega arith
 
--- at most 8 bytes hold a word that is not too wide
-pub span-small : (w j : ℕ) → 1 ≤ w → w ≤ widest → (j * w + w + 7) / 8 - j * w / 8 ≤ 8
-span-small w j one wide = omega arith
-
 -- a word by its bytes' number, with the place past its last byte as it is computed
 pub word-by-past : (w : ℕ) (s : List ℕ) (j p : ℕ) → p ≡ lastByte w j + 1
     → bytesValue s (j * w / 8) (p - j * w / 8) / 2 ^ (8 * p - (j * w + w)) % 2 ^ w ≡ wordAt w s j

@@ -2,10 +2,10 @@
 -- Assumes nothing.
 use Prim.Native.Nat.{ℕ, _+_, _-_, _*_, _/_, _%_, _^_, _≤_, _<_}
 use mathlib.Core.Path.{_≡_, sym, ap, ap₂, _∙_, subst}
-use mathlib.Core.List.{List, _++_}
+use mathlib.Core.List.{List}
 use native.Mathlib.Nat.{zero-add, mul-comm, mul-le-mul-right, mul-add-div-right, mul-add-mod-self-right, mod-lt}
 use native.Mathlib.Omega.{arith}
-use lib.ListN.{getD, length, take, List·getD-append}
+use lib.ListN.{getD, take}
 use lib.Seq.{getD-take}
 use lib.Pow.{pow-pos, pow-add, shr-shr}
 use Rattle.packing.specs.Packing.{byteCount, fillBits, bytesValue, Bytes, firstByte, lastByte, spanBytes, bitsBehind, wordAt}
@@ -86,10 +86,6 @@ count-holds w n = omega arith
 pub count-fill : (w n : ℕ) → n * w + fillBits w n ≡ 8 * byteCount w n
 count-fill w n = omega arith
 
--- fewer than 8 filling bits
-pub fill-small : (w n : ℕ) → fillBits w n < 8
-fill-small w n = omega arith
-
 -- a word's bytes lie within the bytes of n words
 pub span-within : (w n j : ℕ) → 1 ≤ w → j < n → lastByte w j < byteCount w n
 span-within w n j one l = omega (arith, word-within w n j l)
@@ -98,20 +94,6 @@ span-within w n j one l = omega (arith, word-within w n j l)
 pub span-ordered : (w j : ℕ) → 1 ≤ w → firstByte w j ≤ lastByte w j
 span-ordered w j one = omega arith
 
--- words that fill their bytes
-pub count-exact : (w n L : ℕ) → n * w ≡ 8 * L → byteCount w n ≡ L
-count-exact w n L e = omega arith
-
-pub fill-none : (w n L : ℕ) → n * w ≡ 8 * L → fillBits w n ≡ 0
-fill-none w n L e = omega arith
-
--- words that L bytes hold take at most L bytes
-pub count-le : (w n L : ℕ) → n * w ≤ 8 * L → byteCount w n ≤ L
-count-le w n L h = omega arith
-
 -- what follows n bytes does not matter to a word within them
 pub word-take : (w n : ℕ) (s : List ℕ) (j : ℕ) → 1 ≤ w → j * w + w ≤ 8 * n → wordAt w (take n s) j ≡ wordAt w s j
 word-take w n s j one within = word-local w (take n s) s j one (λ i a b. getD-take n s i 0 (omega arith))
-
-pub word-append : (w : ℕ) (s t : List ℕ) (j : ℕ) → 1 ≤ w → j * w + w ≤ 8 * length s → wordAt w (s ++ t) j ≡ wordAt w s j
-word-append w s t j one within = word-local w (s ++ t) s j one (λ i a b. List·getD-append s t 0 i (omega arith))

@@ -10,19 +10,19 @@ use native.Mathlib.Omega.{arith}
 use lib.ListN.{length, take, getD}
 use lib.Seq.{ext-getD, getD-take}
 use lib.Dec.{ltb, eqb}
-use borrow.Author.Tests.{le-ltb, ltb-true, ltb-false, eq-eqb, eqb-true, eqb-false}
+use borrow.Author.Tests.{le-ltb, eq-eqb, eqb-true, eqb-false}
 use Rattle.bools.proofs.Bools.{below-or-not}
 use Rattle.precision.specs.Precision.{inRange, imageLength, wordCount, wordWidth}
 use Rattle.nodes.specs.Nodes.{decode, isRight}
 use Rattle.packing.specs.Packing.{wordAt, firstByte, lastByte}
 use Rattle.packing.proofs.Words.{word-local, word-take, word-within, span-within}
-use Rattle.answers.specs.Refusal.{Refusal, Outcome, outcome, served, turnedBack}
+use Rattle.answers.specs.Refusal.{Refusal, Outcome, outcome, turnedBack}
 use Rattle.image.specs.Image.{wordOf, isWrong}
 use Rattle.image.specs.Refusals.{precisionRefusal, bufferRefusal, nodeRefusal, imageRefusal, wordRefusal}
 use Rattle.image.specs.Calls.{checkOutcome, nodeOutcome, shownPart}
 use Rattle.image.proofs.Laws.{whole-bytes, byte-count}
 use Rattle.image.proofs.Lowest.{lowest-agrees}
-use Rattle.image.proofs.Judging.{node-end, node-above as node-above-end}
+use Rattle.image.proofs.Judging.{node-above as node-above-end}
 use Rattle.operand.specs.Operand.{cutOperand}
 use Rattle.operand.specs.Refusals.{fractionRefusal, operandRefusal, brokenOperand}
 use Rattle.operand.proofs.Limits.{operand-refuses, operand-passes, operand-kept}
@@ -41,28 +41,6 @@ module _ (k : ℕ) (s t : List ℕ) (l : IsLongEnough k s) (m : IsLongEnough k t
       rw (le-ltb (length s) (imageLength k) l, le-ltb (length t) (imageLength k) m)
       (ap (λ (o : Outcome). cond (not (inRange k)) (turnedBack (precisionRefusal k)) o) e)
 
-  pub node-same : (j : ℕ) → (j < 2 ^ k → wordOf k s j ≡ wordOf k t j) → nodeOutcome k s j ≡ nodeOutcome k t j
-  node-same j e =
-      rest-same (nodeRefusal k j ∷ wordRefusal k s j ∷ []) (nodeRefusal k j ∷ wordRefusal k t j ∷ []) v w (by (ltb j (2 ^ k)) (ltb (2 ^ k) j) refl refl)
-    where
-      v : ℕ
-      v = decode k j (wordOf k s j)
-
-      w : ℕ
-      w = decode k j (wordOf k t j)
-
-      by : (a b : Bool) → ltb j (2 ^ k) ≡ a → ltb (2 ^ k) j ≡ b → outcome (nodeRefusal k j ∷ wordRefusal k s j ∷ []) v ≡ outcome (nodeRefusal k j ∷ wordRefusal k t j ∷ []) w
-      by true b below above =
-          ap
-          (λ (x : ℕ). outcome (nodeRefusal k j ∷ record { applies = ltb j (2 ^ k) && not (isRight k j x); number = 6; place = j } ∷ []) (decode k j x))
-          (e (ltb-true j (2 ^ k) below))
-      by false true below above =
-          let h = ltb-true (2 ^ k) j above in
-          node-above-end k s j v h ∙ sym (node-above-end k t j w h)
-      by false false below above =
-          let last : j ≡ 2 ^ k = omega (arith, ltb-false j (2 ^ k) below, ltb-false (2 ^ k) j above) in
-          node-end k s j v last ∙ ap served (rw (eq-eqb j (2 ^ k) last)) ∙ sym (node-end k t j w last)
-
   -- at node i, up to node 2^k, all that is taken from its word
   refusal-same : (i : ℕ) → i ≤ 2 ^ k → (i < 2 ^ k → wordOf k s i ≡ wordOf k t i) → wordRefusal k s i ≡ wordRefusal k t i
   refusal-same i h e =
@@ -72,6 +50,12 @@ module _ (k : ℕ) (s t : List ℕ) (l : IsLongEnough k s) (m : IsLongEnough k t
   value-same : (i : ℕ) → i ≤ 2 ^ k → (i < 2 ^ k → wordOf k s i ≡ wordOf k t i) → nodeOf k s i ≡ nodeOf k t i
   value-same i h e =
       ⊎-elim (λ b. ap (decode k i) (e b)) (λ n. rw (eq-eqb i (2 ^ k) (omega arith))) (below-or-not i (2 ^ k))
+
+  pub node-same : (j : ℕ) → (j < 2 ^ k → wordOf k s j ≡ wordOf k t j) → nodeOutcome k s j ≡ nodeOutcome k t j
+  node-same j e =
+      rest-same (nodeRefusal k j ∷ wordRefusal k s j ∷ []) (nodeRefusal k j ∷ wordRefusal k t j ∷ []) (nodeOf k s j) (nodeOf k t j)
+      (⊎-elim (λ h. node-above-end k s j (nodeOf k s j) h ∙ sym (node-above-end k t j (nodeOf k t j) h))
+      (λ h. let r = refusal-same j h e in let v = value-same j h e in cc) (below-or-not (2 ^ k) j))
 
   -- the words of nodes j and j + 1 of a cut operand
   cut-same : (x : ℕ) → nodeNumber k x < 2 ^ k → wordOf k s (nodeNumber k x) ≡ wordOf k t (nodeNumber k x) → (nodeNumber k x + 1 < 2 ^ k → wordOf k s (nodeNumber k x + 1) ≡ wordOf k t (nodeNumber k x + 1))

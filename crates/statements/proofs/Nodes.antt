@@ -1,17 +1,14 @@
 -- Facts of the nodes that the page of demand 2 cites: their bits, and what words stand for.
 -- Assumes nothing.
-use mathlib.Core.Path.{_≡_, refl, sym, _∙_, ap}
+use mathlib.Core.Path.{_≡_, sym, _∙_, ap}
 use mathlib.Core.Logic.{_↔_}
-use mathlib.Core.Bool.{Bool, true, false}
 use mathlib.Core.List.{List, [], _∷_}
 use Prim.Native.Nat.{ℕ, _+_, _*_, _/_, _^_, _≤_, _<_}
-use native.Mathlib.Nat.{le-of-lt, le-of-eq, div-eq-of-lt-le}
+use native.Mathlib.Nat.{div-eq-of-lt-le}
 use native.Mathlib.Omega.{arith}
 use lib.Pow.{pow-pos}
-use lib.Dec.{ltb}
-use borrow.Author.Tests.{ltb-true, ltb-false}
 use Rattle.nodes.specs.Nodes.{node, decode}
-use Rattle.nodes.proofs.Nodes.{node-first, node-above, node-below, node-last, lead-double, stored-word-first, stored-word-between}
+use Rattle.nodes.proofs.Nodes.{node-first, node-above, node-below, node-last, node-ordered, lead-double, stored-word-first, stored-word-between}
 use Rattle.answers.specs.Refusal.{Outcome, served}
 use Rattle.image.specs.Image.{wordOf}
 use Rattle.image.specs.Refusals.{nodeRefusal, wordRefusal}
@@ -30,13 +27,7 @@ index-positive k j = omega (arith, pow-pos k)
 -- a value from 2^(2k+2) up to 2^(2k+3) has 2k + 3 bits with a leading one
 pub leading-one : (k j : ℕ) → 0 < j → j ≤ 2 ^ k → node k j / 2 ^ (2 * k + 2) ≡ 1
 leading-one k j h l =
-    div-eq-of-lt-le (2 ^ (2 * k + 2)) (omega (arith, low (ltb j (2 ^ k)) refl)) (omega (arith, node-below k j h, lead-double k))
-  where
-    low : (b : Bool) → ltb j (2 ^ k) ≡ b → 2 ^ (2 * k + 2) ≤ node k j
-    low true e = le-of-lt (node-above k j (ltb-true j (2 ^ k) e))
-    low false e =
-        let same : j ≡ 2 ^ k = omega (arith, ltb-false j (2 ^ k) e) in
-        le-of-eq (sym (ap (node k) same ∙ node-last k))
+    div-eq-of-lt-le (2 ^ (2 * k + 2)) (omega (arith, node-last k, node-ordered k {i = j} {j = 2 ^ k} l)) (omega (arith, node-below k j h, lead-double k))
 
 -- the word of a served node decodes to the node
 pub served-decodes : (k : ℕ) (s : List ℕ) (j : ℕ) → j ≤ 2 ^ k → (j < 2 ^ k → IsRightAt k s j) → decode k j (wordOf k s j) ≡ node k j

@@ -17,7 +17,7 @@ use Rattle.packing.specs.Packing.{packedBytes, byteCount}
 use Rattle.image.specs.Image.{image, builtBuffer}
 use Rattle.image.specs.Refusals.{brokenLimit}
 use Rattle.image.proofs.Laws.{byte-count}
-use Rattle.image.proofs.Limits.{Kept, limit-refuses, limit-passes, limit-kept}
+use Rattle.image.proofs.Limits.{ImageKept, limit-refuses, limit-passes, limit-kept}
 use Rattle.building.proofs.build.Statement.{statement}
 use Rattle.building.proofs.build.Tie as tie
 
@@ -33,7 +33,7 @@ leaves k s o = cond (eqb (o .number) 0) (builtBuffer k s) s
 limit : (c : tie.Else1) → brokenLimit (c .before .before .before .args .k .0) (length (c .before .before .before .args .image .now)) ≡ 0
 limit c = sym (c .before .broken-limit .ensures) ∙ c .if1 .left
 
-kept : (c : tie.Else1) → Kept (c .before .before .before .args .k .0) (c .before .before .before .args .image .now)
+kept : (c : tie.Else1) → ImageKept (c .before .before .before .args .k .0) (c .before .before .before .args .image .now)
 kept c = limit-kept (c .before .before .before .args .k .0) (c .before .before .before .args .image .now) (limit c)
 
 broken-limit-requires : tie.Need-broken-limit-requires

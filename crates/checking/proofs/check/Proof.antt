@@ -13,7 +13,7 @@ use Rattle.answers.specs.Answer.{done}
 use Rattle.image.specs.Image.{firstWrongWord, firstWrong}
 use Rattle.image.specs.Refusals.{brokenLimit, imageRefusal}
 use Rattle.image.proofs.Laws.{whole-bytes}
-use Rattle.image.proofs.Limits.{Kept, limit-refuses, limit-passes, limit-kept}
+use Rattle.image.proofs.Limits.{ImageKept, limit-refuses, limit-passes, limit-kept}
 use Rattle.checking.specs.Words.{AreWords}
 use Rattle.checking.proofs.check.Statement.{statement}
 use Rattle.checking.proofs.check.Tie as tie
@@ -22,11 +22,11 @@ use Rattle.checking.proofs.check.Tie as tie
 limit : (c : tie.Else1) → brokenLimit (c .before .before .before .args .k .0) (length (c .before .before .before .args .image .now)) ≡ 0
 limit c = sym (c .before .broken-limit .ensures) ∙ c .if1 .left
 
-kept : (c : tie.Else1) → Kept (c .before .before .before .args .k .0) (c .before .before .before .args .image .now)
+kept : (c : tie.Else1) → ImageKept (c .before .before .before .args .k .0) (c .before .before .before .args .image .now)
 kept c = limit-kept (c .before .before .before .args .k .0) (c .before .before .before .args .image .now) (limit c)
 
 -- the words of a precision are such as are checked
-are-words : (k : ℕ) (s : List ℕ) → Kept k s → AreWords s (2 * k + 2) (2 ^ k) (2 ^ (3 * k + 3)) (2 ^ k) (2 ^ (2 * k + 2))
+are-words : (k : ℕ) (s : List ℕ) → ImageKept k s → AreWords s (2 * k + 2) (2 ^ k) (2 ^ (3 * k + 3)) (2 ^ k) (2 ^ (2 * k + 2))
 are-words k s ok =
     record {
       one = omega arith;

@@ -13,7 +13,7 @@ use Rattle.answers.specs.Refusal.{served}
 use Rattle.answers.specs.Answer.{reciprocalGiven}
 use Rattle.image.specs.Image.{judgedWord}
 use Rattle.image.specs.Refusals.{wordRefusal}
-use Rattle.image.proofs.Limits.{Kept, limit-none, limit-kept}
+use Rattle.image.proofs.Limits.{ImageKept, limit-none, limit-kept}
 use Rattle.interpolation.specs.Algorithm.{nodeNumber, productSum, chopped}
 use Rattle.interpolation.specs.Reciprocal.{nodeOf}
 use Rattle.interpolation.proofs.Cut.{cut-index-least, cut-index-most, cut-number-below, cut-fraction-below, cut-node-most, cut-node-falls}
@@ -40,7 +40,7 @@ abbrev j : tie.After-high → ℕ
 j c = nodeNumber (k c) (t c)
 
 -- k and the image keep their limits
-kept : (c : tie.After-high) → Kept (k c) (s c)
+kept : (c : tie.After-high) → ImageKept (k c) (s c)
 kept c = let p = start c .pre in limit-kept (k c) (s c) (limit-none (k c) (s c) (p .low) (p .high) (p .long))
 
 -- j is below 2^k, and so of 12 bits

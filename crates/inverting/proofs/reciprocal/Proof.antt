@@ -8,13 +8,11 @@ use lib.ListN.{length}
 use borrow.Author.Needs.{needs}
 use Rattle.answers.specs.Answer.{reciprocalGiven}
 use Rattle.image.specs.Refusals.{brokenLimit}
-use Rattle.image.proofs.Limits as image
-use Rattle.image.proofs.Limits.{limit-refuses, limit-passes, limit-kept}
+use Rattle.image.proofs.Limits.{ImageKept, limit-refuses, limit-passes, limit-kept}
 use Rattle.operand.specs.Operand.{cutOperand}
 use Rattle.operand.specs.Refusals.{brokenOperand, fractionRefusal, operandRefusal}
 use Rattle.operand.proofs.Laws.{cut-normalised}
-use Rattle.operand.proofs.Limits as operand
-use Rattle.operand.proofs.Limits.{operand-refuses, operand-passes, operand-kept}
+use Rattle.operand.proofs.Limits.{OperandKept, operand-refuses, operand-passes, operand-kept}
 use Rattle.interpolation.specs.Reciprocal.{readReciprocal}
 use Rattle.interpolation.specs.Calls.{cutRefusals, cutOutcome}
 use Rattle.inverting.specs.Cut.{IsCut}
@@ -30,7 +28,7 @@ limit-2 : (c : tie.Else2) → brokenOperand (c .before .before .before .before .
 limit-2 c = omega (arith, c .before .broken-limit2 .ensures .0, c .if2 .left)
 
 -- an operand that keeps them is cut to one of 2k + 3 fraction bits
-cut-is : (k : ℕ) (s : List ℕ) (n X : ℕ) → image.Kept k s → operand.Kept k n X → IsCut k s (cutOperand k n X)
+cut-is : (k : ℕ) (s : List ℕ) (n X : ℕ) → ImageKept k s → OperandKept k n X → IsCut k s (cutOperand k n X)
 cut-is k s n X a b =
     let r = cut-normalised k n X (b .enough) (b .least) (b .below) in
     record { low = a .low; high = a .high; long = a .long; least = r .0; most = r .1 }

@@ -13,7 +13,7 @@ use Rattle.precision.specs.Precision.{wordWidth}
 use Rattle.nodes.specs.Nodes.{decode}
 use Rattle.image.specs.Image.{wordOf, judgedWord}
 use Rattle.image.specs.Refusals.{brokenLimit, nodeRefusal, wordRefusal}
-use Rattle.image.proofs.Limits.{Kept, limit-refuses, limit-passes, limit-kept}
+use Rattle.image.proofs.Limits.{ImageKept, limit-refuses, limit-passes, limit-kept}
 use Rattle.image.proofs.Judging.{judged-0, judged-not-0, judged-value, node-above, node-end, node-wrong, node-right}
 use Rattle.reading.proofs.node.Statement.{statement}
 use Rattle.reading.proofs.node.Tie as tie
@@ -22,7 +22,7 @@ use Rattle.reading.proofs.node.Tie as tie
 limit : (c : tie.Else1) → brokenLimit (c .before .before .before .args .k .0) (length (c .before .before .before .args .image .now)) ≡ 0
 limit c = sym (c .before .broken-limit .ensures) ∙ c .if1 .left
 
-kept : (c : tie.Else1) → Kept (c .before .before .before .args .k .0) (c .before .before .before .args .image .now)
+kept : (c : tie.Else1) → ImageKept (c .before .before .before .args .k .0) (c .before .before .before .args .image .now)
 kept c = limit-kept (c .before .before .before .args .k .0) (c .before .before .before .args .image .now) (limit c)
 
 -- the number of words is 2^k

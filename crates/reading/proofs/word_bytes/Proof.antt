@@ -13,7 +13,7 @@ use Rattle.precision.specs.Precision.{wordWidth}
 use Rattle.packing.specs.Packing.{firstByte, spanBytes}
 use Rattle.image.specs.Refusals.{brokenLimit}
 use Rattle.image.proofs.Laws.{word-in-buffer}
-use Rattle.image.proofs.Limits.{Kept, limit-no-image, limit-kept, limit-image}
+use Rattle.image.proofs.Limits.{ImageKept, limit-no-image, limit-kept, limit-image}
 use Rattle.reading.proofs.word_bytes.Statement.{statement}
 use Rattle.reading.proofs.word_bytes.Tie as tie
 
@@ -21,7 +21,7 @@ use Rattle.reading.proofs.word_bytes.Tie as tie
 limit : (c : tie.Else1) → brokenLimit (c .before .before .before .args .k .0) (length (c .before .before .before .args .image .now)) ≡ 0
 limit c = sym (c .before .broken-limit .ensures) ∙ c .if1 .left
 
-kept : (c : tie.Else1) → Kept (c .before .before .before .args .k .0) (c .before .before .before .args .image .now)
+kept : (c : tie.Else1) → ImageKept (c .before .before .before .args .k .0) (c .before .before .before .args .image .now)
 kept c = limit-kept (c .before .before .before .args .k .0) (c .before .before .before .args .image .now) (limit c)
 
 -- the number of words is 2^k
