@@ -1,13 +1,13 @@
 -- What the limits of k and the buffer mean for every list of refusals that begins with them.
 -- Assumes nothing.
-use mathlib.Core.Path.{_≡_, refl}
+use mathlib.Core.Path.{_≡_, refl, ap, _∙_}
 use mathlib.Core.Bool.{Bool, true, false, cond, not, _||_, true≢false}
 use mathlib.Core.List.{List, [], _∷_}
 use Prim.Native.Nat.{ℕ, _+_, _*_, _^_, _≤_}
 use lib.Dec.{ltb}
 use lib.ListN.{length}
 use borrow.Author.Tests.{ltb-false, le-ltb, not-false}
-use Rattle.precision.specs.Precision.{inRange, imageLength, wordsOr0}
+use Rattle.precision.specs.Precision.{inRange, wordWidth, imageLength, wordsOr0}
 use Rattle.precision.proofs.Range.{in-range, range-in, words-in-range}
 use Rattle.nodes.specs.Nodes.{numeratorOr0, leadOr0}
 use Rattle.answers.specs.Refusal.{Refusal, outcome}
@@ -23,6 +23,15 @@ pub record ImageKept (k : ℕ) (s : List ℕ) : Type 0 where
   pub words : wordsOr0 k ≡ 2 ^ k
   pub numerator : numeratorOr0 k ≡ 2 ^ (3 * k + 3)
   pub lead : leadOr0 k ≡ 2 ^ (2 * k + 2)
+
+-- so whatever is told the numbers that the code has of k is told these powers
+pub told : {k : ℕ} {s : List ℕ} → ImageKept k s → (g : ℕ → ℕ → ℕ → ℕ → ℕ) {w M n l : ℕ} → w ≡ wordWidth k → M ≡ numeratorOr0 k → n ≡ wordsOr0 k → l ≡ leadOr0 k
+    → g w M n l ≡ g (wordWidth k) (2 ^ (3 * k + 3)) (2 ^ k) (2 ^ (2 * k + 2))
+told {k} kept g {w} {M} {n} {l} a b c d =
+    ap (λ (x : ℕ). g x M n l) a
+    ∙ ap (λ (x : ℕ). g (wordWidth k) x n l) (b ∙ kept .numerator)
+    ∙ ap (λ (x : ℕ). g (wordWidth k) (2 ^ (3 * k + 3)) x l) (c ∙ kept .words)
+    ∙ ap (λ (x : ℕ). g (wordWidth k) (2 ^ (3 * k + 3)) (2 ^ k) x) (d ∙ kept .lead)
 
 -- a number that is not 0 says that a limit is broken, and where none is broken it is 0
 broken-of : (a b : Bool) → (_≡_ {A = ℕ} (cond a 1 (cond b 2 0)) 0 → ⊥) → (a || b) ≡ true

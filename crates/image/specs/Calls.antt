@@ -1,4 +1,4 @@
--- What each call on an image answers, and what it leaves in the lent buffer.
+-- What the builder, the check and the reading of an image answer, and what the builder leaves in the lent buffer.
 -- Assumes nothing.
 use Prim.Native.Nat.{ℕ}
 use mathlib.Core.Bool.{Bool, cond, not, _||_}
@@ -6,9 +6,8 @@ use mathlib.Core.List.{List, [], _∷_}
 use lib.Dec.{ltb, eqb}
 use lib.ListN.{length}
 use Rattle.precision.specs.Precision.{wordCount}
-use Rattle.nodes.specs.Nodes.{decode}
 use Rattle.answers.specs.Refusal.{Refusal, Outcome, outcome}
-use Rattle.image.specs.Image.{builtBuffer, wordOf, wordPart}
+use Rattle.image.specs.Image.{builtBuffer, nodeOf, wordPart}
 use Rattle.image.specs.Refusals.{isOutOfRange, isTooShort, precisionRefusal, bufferRefusal, nodeRefusal, imageRefusal, wordRefusal}
 
 -- the refusals of the builder, in checking order: 1 and 2
@@ -37,7 +36,7 @@ nodeRefusals k s j = precisionRefusal k ∷ bufferRefusal k s ∷ nodeRefusal k 
 
 -- the answer of reading node j; it gives the node as its word is decoded, in table units
 abbrev pub nodeOutcome : ℕ → List ℕ → ℕ → Outcome
-nodeOutcome k s j = outcome (nodeRefusals k s j) (decode k j (wordOf k s j))
+nodeOutcome k s j = outcome (nodeRefusals k s j) (nodeOf k s j)
 
 -- refusal 1 or 2 applies
 abbrev pub noImage : ℕ → List ℕ → Bool

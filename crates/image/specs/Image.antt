@@ -7,7 +7,7 @@ use lib.Dec.{eqb, leb}
 use lib.ListN.{take, drop}
 use Rattle.precision.specs.Precision.{wordWidth, wordCount, imageLength}
 use Rattle.image.specs.Lowest.{lowest}
-use Rattle.nodes.specs.Nodes.{storedWord, judged}
+use Rattle.nodes.specs.Nodes.{storedWord, decode, judged}
 use Rattle.packing.specs.Packing.{packedBytes, wordAt, firstByte, spanBytes, wordRead}
 
 -- the image: the words of nodes 0 to 2^k - 1, packed
@@ -25,6 +25,10 @@ builtBuffer k s = image k ++ afterImage k s
 -- the word that a buffer holds for node j
 abbrev pub wordOf : ℕ → List ℕ → ℕ → ℕ
 wordOf k s j = wordAt (wordWidth k) s j
+
+-- what that word stands for; node 2^k has none, and its value is implied
+abbrev pub nodeOf : ℕ → List ℕ → ℕ → ℕ
+nodeOf k s j = decode k j (wordOf k s j)
 
 -- word j of w bits of a buffer is not f's
 abbrev pub isWrongWord : ℕ → (ℕ → ℕ) → List ℕ → ℕ → Bool
@@ -50,3 +54,8 @@ wordPart k s j = take (spanBytes (wordWidth k) j) (drop (firstByte (wordWidth k)
 -- bits are not judged
 abbrev pub judgedWord : List ℕ → ℕ → ℕ → ℕ → ℕ → ℕ → ℕ
 judgedWord s w M first lead j = cond (leb w 32) (judged M first lead j (wordRead w s j)) 0
+
+-- what node j of a table of n words is judged to be, the divisors starting at n: node n, which has no word, is the leading one, and any other
+-- is what its word stands for where that is right, and 0 where it is not
+abbrev pub judgedNode : List ℕ → ℕ → ℕ → ℕ → ℕ → ℕ → ℕ
+judgedNode s w M n lead j = cond (eqb j n) lead (judgedWord s w M n lead j)

@@ -1,7 +1,7 @@
 // The image of a precision: what it is stands in specs/, and here are the limits that every call on an image tests first, and the
 // judging of a word where it stands.
 ghost use mathlib.Core.Path.{_≡_};
-ghost use Rattle.image.specs.Image.{judgedWord};
+ghost use Rattle.image.specs.Image.{judgedWord, judgedNode};
 ghost use Rattle.image.specs.Refusals.{brokenLimit};
 use precision::Precision;
 use units::TableUnits;
@@ -37,4 +37,22 @@ pub fn judged_word(
     }
     let word = packing::word(image, width, j);
     nodes::judge(numerator, first, lead, j, word as u32)
+}
+
+// What node j of an image of `count` words is judged to be, the divisors starting at `count`: node `count`, which has no word, is the
+// leading one, and any other is what its word stands for, 0 where the word is wrong.
+pub fn judged_node(
+    image: &[u8],
+    width: u32,
+    numerator: u64,
+    count: u32,
+    lead: u32,
+    j: u32,
+) -> TableUnits
+    ensures { λ r. ⌜ r .0 ≡ judgedNode (now (image .entry)) width numerator count lead j ⌝ }
+{
+    if j == count {
+        return TableUnits(lead as u64);
+    }
+    judged_word(image, width, numerator, count, lead, j)
 }

@@ -2,18 +2,13 @@
 -- Assumes nothing.
 use Prim.Native.Nat.{ℕ, _+_}
 use mathlib.Core.List.{List}
-use Rattle.nodes.specs.Nodes.{decode}
-use Rattle.image.specs.Image.{wordOf}
+use Rattle.image.specs.Image.{nodeOf}
 use Rattle.operand.specs.Operand.{cutOperand}
 use Rattle.interpolation.specs.Algorithm.{nodeNumber, fraction, productSum, chopped, cutReciprocal}
 
 -- R: by Algorithms 1 and 2 of document 002, in ulps
 abbrev pub reciprocal : ℕ → ℕ → ℕ → ℕ
 reciprocal k n X = cutReciprocal k (cutOperand k n X)
-
--- what the word that a buffer holds for node j stands for
-abbrev pub nodeOf : ℕ → List ℕ → ℕ → ℕ
-nodeOf k s j = decode k j (wordOf k s j)
 
 -- what a buffer gives for a cut operand t: Algorithm 2 with the nodes that its words stand for
 abbrev pub readReciprocal : ℕ → List ℕ → ℕ → ℕ

@@ -1,12 +1,9 @@
--- What is asked of a cut operand and of the nodes at the ends of its piece, and how the upper one is judged.
+-- What is asked of a cut operand and of the nodes at the ends of its piece.
 -- Assumes nothing.
-use mathlib.Core.Bool.{cond}
 use mathlib.Core.List.{List}
 use Prim.Native.Nat.{ℕ, _+_, _*_, _^_, _≤_, _<_}
-use lib.Dec.{eqb}
 use lib.ListN.{length}
 use Rattle.precision.specs.Precision.{imageLength}
-use Rattle.image.specs.Image.{judgedWord}
 
 -- k and the buffer keep their limits, and t is an operand of 2k + 3 fraction bits
 pub record IsCut (k : ℕ) (s : List ℕ) (t : ℕ) : Type 0 where
@@ -22,7 +19,3 @@ pub record IsPiece (k c c' f : ℕ) : Type 0 where
   pub first : c ≤ 2 ^ (2 * k + 3)
   pub falls : c' ≤ c
   pub inside : f < 2 ^ (k + 3)
-
--- what node j of a table of n words is judged to be: the last node is the leading one, and any other what its word is judged to be
-abbrev pub judgedNode : List ℕ → ℕ → ℕ → ℕ → ℕ → ℕ → ℕ
-judgedNode s w M n lead j = cond (eqb j n) lead (judgedWord s w M n lead j)

@@ -3,7 +3,7 @@ ghost use mathlib.Core.Path.{_≡_};
 ghost use Rattle.answers.specs.Answer.{reciprocalGiven};
 ghost use Rattle.interpolation.specs.Algorithm.{productSum, chopped};
 ghost use Rattle.interpolation.specs.Calls.{cutOutcome, reciprocalOutcome};
-ghost use Rattle.inverting.specs.Cut.{IsCut, IsPiece, judgedNode};
+ghost use Rattle.inverting.specs.Cut.{IsCut, IsPiece};
 use answers::ReciprocalGiven;
 use precision::Precision;
 use units::TableUnits;
@@ -16,23 +16,6 @@ fn interpolated(k: Precision, c: TableUnits, d: TableUnits, f: u64) -> Ulps
 {
     let sum = c.0 * bits::power(k.0 + 3) - (c.0 - d.0) * f;
     Ulps(bits::high(sum, k.0 + 5))
-}
-
-// What the word of node j stands for, and 0 where it is wrong; node `count` has no word and is the leading one.
-fn judged_node(
-    image: &[u8],
-    width: u32,
-    numerator: u64,
-    count: u32,
-    lead: u32,
-    j: u32,
-) -> TableUnits
-    ensures { λ r. ⌜ r .0 ≡ judgedNode (now (image .entry)) width numerator count lead j ⌝ }
-{
-    if j == count {
-        return TableUnits(lead as u64);
-    }
-    image::judged_word(image, width, numerator, count, lead, j)
 }
 
 // The reciprocal of a cut operand t, where k and the image keep their limits. The words at both ends of its piece are judged, the
@@ -55,7 +38,7 @@ fn of_cut(k: Precision, image: &[u8], t: u64) -> ReciprocalGiven
             value: Ulps(0),
         };
     }
-    let d = judged_node(image, width, numerator, count, lead, j + 1);
+    let d = image::judged_node(image, width, numerator, count, lead, j + 1);
     if d.0 == 0 {
         return ReciprocalGiven {
             number: 6,

@@ -26,16 +26,8 @@ pub fn node(k: Precision, image: &[u8], j: u32) -> NodeRead
             value: TableUnits(0),
         };
     }
-    let lead = nodes::lead(k);
-    if j == count {
-        return NodeRead {
-            number: 0,
-            place: 0,
-            value: TableUnits(lead as u64),
-        };
-    }
     let width = k.word_width() as u32;
-    let c = image::judged_word(image, width, nodes::numerator(k), count, lead, j);
+    let c = image::judged_node(image, width, nodes::numerator(k), count, nodes::lead(k), j);
     if c.0 == 0 {
         return NodeRead {
             number: 6,

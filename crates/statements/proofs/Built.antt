@@ -5,27 +5,27 @@ use mathlib.Core.Bool.{Bool, true, false, cond}
 use mathlib.Core.List.{List, [], _∷_, append-nil}
 use Prim.Native.Nat.{ℕ, _+_, _*_, _%_, _^_, _≤_, _<_}
 use native.Mathlib.Nat.{le-of-eq}
-use native.Mathlib.Omega.{arith}
 use lib.ListN.{length, take, drop}
 use lib.Seq.{drop-at}
-use lib.Dec.{eqb, ltb, lit<}
-use borrow.Author.Tests.{le-ltb, ltb-true, ltb-false, eqb-true, ne-eqb}
+use lib.Dec.{eqb, lit<}
+use borrow.Author.Tests.{le-ltb, eqb-true, ne-eqb}
 use Rattle.precision.specs.Precision.{imageLength, wordCount, wordWidth}
-use Rattle.nodes.specs.Nodes.{node, decode, storedWord}
+use Rattle.nodes.specs.Nodes.{node, storedWord}
 use Rattle.packing.specs.Packing.{bitAt, bitOfWord}
 use Rattle.packing.proofs.Bits.{bit-of-packed}
-use Rattle.answers.specs.Refusal.{Outcome, outcome, served}
-use Rattle.image.specs.Image.{image, builtBuffer, afterImage, wordOf, isWrong, firstWrong}
+use Rattle.answers.specs.Refusal.{Outcome, served}
+use Rattle.image.specs.Image.{image, builtBuffer, afterImage, isWrong, firstWrong, nodeOf}
 use Rattle.image.specs.Refusals.{nodeRefusal, imageRefusal, wordRefusal}
 use Rattle.image.specs.Calls.{buildOutcome, buildLeaves, checkOutcome, nodeOutcome}
 use Rattle.image.proofs.Laws.{built-front, image-length, image-word, built-length, right-not-wrong, stored-lt}
 use Rattle.image.proofs.Lowest.{lowest-none}
-use Rattle.image.proofs.Judging.{node-right, node-end}
+use Rattle.image.proofs.Judging.{node-served}
 use Rattle.operand.specs.Operand.{cutOperand}
 use Rattle.interpolation.specs.Algorithm.{nodeNumber}
 use Rattle.interpolation.specs.Reciprocal.{reciprocal}
 use Rattle.interpolation.specs.Calls.{reciprocalOutcome}
 use Rattle.statements.specs.Terms.{IsPrecision, IsLongEnough, IsRightAt, IsFractionCount, IsNormalised}
+use Rattle.statements.proofs.Iff.{read-right}
 use Rattle.statements.proofs.Nodes.{served-decodes}
 use Rattle.statements.proofs.Numbers.{kept-answer, later-number}
 use Rattle.statements.proofs.Reciprocals.{has-word, gives}
@@ -69,15 +69,9 @@ module _ (k : ℕ) (s : List ℕ) (p : IsPrecision k) (l : IsLongEnough k s) whe
 
   pub read-back : (j : ℕ) → j ≤ 2 ^ k → nodeOutcome k (buildLeaves k s) j ≡ served (node k j)
   read-back j h =
-      kept-answer k (buildLeaves k s) (nodeRefusal k j ∷ wordRefusal k (buildLeaves k s) j ∷ []) (decode k j (wordOf k (buildLeaves k s) j)) p still-long
-      ∙ by (ltb j (2 ^ k)) refl
+      kept-answer k (buildLeaves k s) (nodeRefusal k j ∷ wordRefusal k (buildLeaves k s) j ∷ []) (nodeOf k (buildLeaves k s) j) p still-long
+      ∙ node-served k (buildLeaves k s) j (nodeOf k (buildLeaves k s) j) h (read-right k (buildLeaves k s) j (built-words j))
       ∙ ap served (served-decodes k (buildLeaves k s) j h (built-words j))
-    where
-      by : (b : Bool) → ltb j (2 ^ k) ≡ b → outcome (nodeRefusal k j ∷ wordRefusal k (buildLeaves k s) j ∷ []) (decode k j (wordOf k (buildLeaves k s) j)) ≡ served (decode k j (wordOf k (buildLeaves k s) j))
-      by true e =
-          let m = ltb-true j (2 ^ k) e in
-          node-right k (buildLeaves k s) j (decode k j (wordOf k (buildLeaves k s) j)) m (right-not-wrong k (buildLeaves k s) j (built-words j m))
-      by false e = node-end k (buildLeaves k s) j (decode k j (wordOf k (buildLeaves k s) j)) (omega (arith, ltb-false j (2 ^ k) e))
 
   pub built-gives : (n X : ℕ) → IsFractionCount k n → IsNormalised n X → reciprocalOutcome k (buildLeaves k s) n X ≡ served (reciprocal k n X)
   built-gives n X c o =

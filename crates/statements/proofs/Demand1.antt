@@ -13,9 +13,9 @@ use lib.ListN.{length, drop, getD}
 use denote.Ref.{RefT, now}
 use Rattle.precision.specs.Precision.{imageLength}
 use Rattle.precision.specs.declared.Precision.{Precision}
-use Rattle.nodes.specs.Nodes.{node, decode}
+use Rattle.nodes.specs.Nodes.{node}
 use Rattle.answers.proofs.Order.{isOneOf, listed, avoided, first, later, placed, value-of-0, refused-value, served-value}
-use Rattle.image.specs.Image.{wordOf}
+use Rattle.image.specs.Image.{nodeOf}
 use Rattle.image.specs.Refusals.{nodeRefusal, imageRefusal, wordRefusal}
 use Rattle.image.specs.Calls.{buildRefusals, buildOutcome, buildLeaves, checkRefusals, checkOutcome, nodeRefusals, nodeOutcome, shownPart}
 use Rattle.operand.specs.Operand.{cutOperand}
@@ -101,46 +101,46 @@ module _ (k : ℕ) (s : List ℕ) where
 -- Reading a node.
 module _ (k : ℕ) (s : List ℕ) (j : ℕ) where
   pub node-refuses-1 : (nodeOutcome k s j .number ≡ 1) ↔ (IsPrecision k → ⊥)
-  node-refuses-1 = refuses-1 k s (nodeRefusal k j ∷ wordRefusal k s j ∷ []) (decode k j (wordOf k s j)) tt
+  node-refuses-1 = refuses-1 k s (nodeRefusal k j ∷ wordRefusal k s j ∷ []) (nodeOf k s j) tt
 
   pub node-refuses-2 : (nodeOutcome k s j .number ≡ 2) ↔ (IsPrecision k × (length s < imageLength k))
-  node-refuses-2 = refuses-2 k s (nodeRefusal k j ∷ wordRefusal k s j ∷ []) (decode k j (wordOf k s j)) tt
+  node-refuses-2 = refuses-2 k s (nodeRefusal k j ∷ wordRefusal k s j ∷ []) (nodeOf k s j) tt
 
   -- 3: the node number is above 2^k
   pub node-refuses-3 : (nodeOutcome k s j .number ≡ 3) ↔ (IsPrecision k × IsLongEnough k s × (2 ^ k < j))
   node-refuses-3 =
-      joined (later-number k s (nodeRefusal k j ∷ wordRefusal k s j ∷ []) (decode k j (wordOf k s j)) 3 tt tt)
-      (joined (both same (both same (node-number-3 k s j (decode k j (wordOf k s j))))) row3)
+      joined (later-number k s (nodeRefusal k j ∷ wordRefusal k s j ∷ []) (nodeOf k s j) 3 tt tt)
+      (joined (both same (both same (node-number-3 k s j (nodeOf k s j)))) row3)
 
   -- 6: the word of node j is not the construction's; node 2^k, which has none, never gives it
   pub node-refuses-6 : (nodeOutcome k s j .number ≡ 6) ↔ (IsPrecision k × IsLongEnough k s × (j < 2 ^ k) × (IsRightAt k s j → ⊥))
   node-refuses-6 =
-      joined (later-number k s (nodeRefusal k j ∷ wordRefusal k s j ∷ []) (decode k j (wordOf k s j)) 6 tt tt)
-      (joined (both same (both same (node-number-6 k s j (decode k j (wordOf k s j))))) row4)
+      joined (later-number k s (nodeRefusal k j ∷ wordRefusal k s j ∷ []) (nodeOf k s j) 6 tt tt)
+      (joined (both same (both same (node-number-6 k s j (nodeOf k s j)))) row4)
 
   pub node-serves : (nodeOutcome k s j .number ≡ 0) ↔ (IsPrecision k × IsLongEnough k s × (j ≤ 2 ^ k) × (j < 2 ^ k → IsRightAt k s j))
   node-serves =
-      joined (later-number k s (nodeRefusal k j ∷ wordRefusal k s j ∷ []) (decode k j (wordOf k s j)) 0 tt tt)
-      (joined (both same (both same (node-number-0 k s j (decode k j (wordOf k s j))))) row4)
+      joined (later-number k s (nodeRefusal k j ∷ wordRefusal k s j ∷ []) (nodeOf k s j) 0 tt tt)
+      (joined (both same (both same (node-number-0 k s j (nodeOf k s j)))) row4)
 
   pub node-numbers : T (isOneOf (nodeOutcome k s j .number) (0 ∷ 1 ∷ 2 ∷ 3 ∷ 6 ∷ []))
-  node-numbers = listed (0 ∷ 1 ∷ 2 ∷ 3 ∷ 6 ∷ []) (nodeRefusals k s j) (decode k j (wordOf k s j)) tt tt
+  node-numbers = listed (0 ∷ 1 ∷ 2 ∷ 3 ∷ 6 ∷ []) (nodeRefusals k s j) (nodeOf k s j) tt tt
 
   -- the place is 0 but under 6, and there it is node j
   pub node-place-0 : (nodeOutcome k s j .number ≡ 6 → ⊥) → nodeOutcome k s j .place ≡ 0
-  node-place-0 = placed 6 (nodeRefusals k s j) (decode k j (wordOf k s j)) tt
+  node-place-0 = placed 6 (nodeRefusals k s j) (nodeOf k s j) tt
 
   pub node-place-6 : nodeOutcome k s j .number ≡ 6 → nodeOutcome k s j .place ≡ j
-  node-place-6 e = let t = node-refuses-6 .0 e in node-place k s j (decode k j (wordOf k s j)) (t .0) (t .1) (t .2) (t .3)
+  node-place-6 e = let t = node-refuses-6 .0 e in node-place k s j (nodeOf k s j) (t .0) (t .1) (t .2) (t .3)
 
   -- a refusal has the value 0, and a node that is served is c(j), whatever bytes the image holds
   pub node-refused-value : (nodeOutcome k s j .number ≡ 0 → ⊥) → nodeOutcome k s j .value ≡ 0
-  node-refused-value = refused-value (nodeRefusals k s j) (decode k j (wordOf k s j))
+  node-refused-value = refused-value (nodeRefusals k s j) (nodeOf k s j)
 
   pub node-served-value : nodeOutcome k s j .number ≡ 0 → nodeOutcome k s j .value ≡ node k j
   node-served-value e =
       let t = node-serves .0 e in
-      served-value (nodeRefusals k s j) (decode k j (wordOf k s j)) tt e .1 ∙ served-decodes k s j (t .2) (t .3)
+      served-value (nodeRefusals k s j) (nodeOf k s j) tt e .1 ∙ served-decodes k s j (t .2) (t .3)
 
 -- The reciprocal of X with n fraction bits.
 module _ (k : ℕ) (s : List ℕ) (n X : ℕ) where

@@ -17,17 +17,17 @@ use Rattle.nodes.specs.Nodes.{decode, isRight}
 use Rattle.packing.specs.Packing.{wordAt, firstByte, lastByte}
 use Rattle.packing.proofs.Words.{word-local, word-take, word-within, span-within}
 use Rattle.answers.specs.Refusal.{Refusal, Outcome, outcome, turnedBack}
-use Rattle.image.specs.Image.{wordOf, isWrong}
+use Rattle.image.specs.Image.{wordOf, isWrong, nodeOf}
 use Rattle.image.specs.Refusals.{precisionRefusal, bufferRefusal, nodeRefusal, imageRefusal, wordRefusal}
 use Rattle.image.specs.Calls.{checkOutcome, nodeOutcome, shownPart}
 use Rattle.image.proofs.Laws.{whole-bytes, byte-count}
 use Rattle.image.proofs.Lowest.{lowest-agrees}
-use Rattle.image.proofs.Judging.{node-above as node-above-end}
+use Rattle.image.proofs.Judging.{node-past}
 use Rattle.operand.specs.Operand.{cutOperand}
 use Rattle.operand.specs.Refusals.{fractionRefusal, operandRefusal, brokenOperand}
 use Rattle.operand.proofs.Limits.{operand-refuses, operand-passes, operand-kept}
 use Rattle.interpolation.specs.Algorithm.{nodeNumber}
-use Rattle.interpolation.specs.Reciprocal.{nodeOf, readReciprocal}
+use Rattle.interpolation.specs.Reciprocal.{readReciprocal}
 use Rattle.interpolation.specs.Calls.{cutRefusals, cutOutcome, reciprocalOutcome}
 use Rattle.statements.specs.Terms.{IsPrecision, IsLongEnough}
 use Rattle.statements.proofs.Reciprocals.{has-word}
@@ -54,7 +54,7 @@ module _ (k : ℕ) (s t : List ℕ) (l : IsLongEnough k s) (m : IsLongEnough k t
   pub node-same : (j : ℕ) → (j < 2 ^ k → wordOf k s j ≡ wordOf k t j) → nodeOutcome k s j ≡ nodeOutcome k t j
   node-same j e =
       rest-same (nodeRefusal k j ∷ wordRefusal k s j ∷ []) (nodeRefusal k j ∷ wordRefusal k t j ∷ []) (nodeOf k s j) (nodeOf k t j)
-      (⊎-elim (λ h. node-above-end k s j (nodeOf k s j) h ∙ sym (node-above-end k t j (nodeOf k t j) h))
+      (⊎-elim (λ h. node-past k s j (nodeOf k s j) h ∙ sym (node-past k t j (nodeOf k t j) h))
       (λ h. let r = refusal-same j h e in let v = value-same j h e in cc) (below-or-not (2 ^ k) j))
 
   -- the words of nodes j and j + 1 of a cut operand

@@ -7,15 +7,13 @@ use Prim.Native.Nat.{ℕ, _+_, _*_, _/_, _^_, _≤_, _<_}
 use native.Mathlib.Nat.{div-eq-of-lt-le}
 use native.Mathlib.Omega.{arith}
 use lib.Pow.{pow-pos}
-use Rattle.nodes.specs.Nodes.{node, decode}
+use Rattle.nodes.specs.Nodes.{node}
 use Rattle.nodes.proofs.Nodes.{node-first, node-above, node-below, node-last, node-ordered, lead-double, stored-word-first, stored-word-between}
 use Rattle.answers.specs.Refusal.{Outcome, served}
-use Rattle.image.specs.Image.{wordOf}
+use Rattle.image.specs.Image.{wordOf, nodeOf}
 use Rattle.image.specs.Refusals.{nodeRefusal, wordRefusal}
 use Rattle.image.specs.Calls.{nodeOutcome}
-use Rattle.image.proofs.Laws.{right-not-wrong}
-use Rattle.image.proofs.Judging.{node-right as word-right}
-use Rattle.interpolation.proofs.Answers.{node-right}
+use Rattle.image.proofs.Judging.{right-node, node-served}
 use Rattle.statements.specs.Terms.{IsPrecision, IsLongEnough, IsRightAt}
 use Rattle.statements.proofs.Iff.{read-right}
 use Rattle.statements.proofs.Numbers.{kept-answer, later-number, node-number-0}
@@ -30,8 +28,8 @@ leading-one k j h l =
     div-eq-of-lt-le (2 ^ (2 * k + 2)) (omega (arith, node-last k, node-ordered k {i = j} {j = 2 ^ k} l)) (omega (arith, node-below k j h, lead-double k))
 
 -- the word of a served node decodes to the node
-pub served-decodes : (k : ℕ) (s : List ℕ) (j : ℕ) → j ≤ 2 ^ k → (j < 2 ^ k → IsRightAt k s j) → decode k j (wordOf k s j) ≡ node k j
-served-decodes k s j h f = node-right k s j h (read-right k s j f)
+pub served-decodes : (k : ℕ) (s : List ℕ) (j : ℕ) → j ≤ 2 ^ k → (j < 2 ^ k → IsRightAt k s j) → nodeOf k s j ≡ node k j
+served-decodes k s j h f = right-node k s j h (read-right k s j f)
 
 -- zero words
 pub zero-right : (k : ℕ) (s : List ℕ) → wordOf k s 0 ≡ 0 → IsRightAt k s 0
@@ -47,9 +45,9 @@ zero-node k s p l = (to, from)
     to : wordOf k s 0 ≡ 0 → nodeOutcome k s 0 ≡ served (2 ^ (2 * k + 3))
     to e =
         let right = zero-right k s e in
-        kept-answer k s (nodeRefusal k 0 ∷ wordRefusal k s 0 ∷ []) (decode k 0 (wordOf k s 0)) p l
-        ∙ word-right k s 0 (decode k 0 (wordOf k s 0)) (pow-pos k) (right-not-wrong k s 0 right)
+        kept-answer k s (nodeRefusal k 0 ∷ wordRefusal k s 0 ∷ []) (nodeOf k s 0) p l
+        ∙ node-served k s 0 (nodeOf k s 0) (omega arith) (read-right k s 0 (λ h. right))
         ∙ ap served (served-decodes k s 0 (omega arith) (λ h. right) ∙ node-first k)
 
     from : nodeOutcome k s 0 ≡ served (2 ^ (2 * k + 3)) → wordOf k s 0 ≡ 0
-    from e = node-number-0 k s 0 (decode k 0 (wordOf k s 0)) .0 (later-number k s (nodeRefusal k 0 ∷ wordRefusal k s 0 ∷ []) (decode k 0 (wordOf k s 0)) 0 tt tt .0 (ap (λ (o : Outcome). o .number) e) .1 .1) .1 (pow-pos k) ∙ stored-word-first k
+    from e = node-number-0 k s 0 (nodeOf k s 0) .0 (later-number k s (nodeRefusal k 0 ∷ wordRefusal k s 0 ∷ []) (nodeOf k s 0) 0 tt tt .0 (ap (λ (o : Outcome). o .number) e) .1 .1) .1 (pow-pos k) ∙ stored-word-first k

@@ -3,7 +3,7 @@
 -- Assumes nothing.
 use mathlib.Core.Path.{_≡_, refl, sym, _∙_, ap}
 use mathlib.Core.Logic.{_↔_}
-use mathlib.Core.Bool.{Bool, true, false, not, true≢false}
+use mathlib.Core.Bool.{true, false, not, true≢false}
 use mathlib.Core.List.{List, [], _∷_}
 use Prim.Native.Nat.{ℕ, _^_, _≤_, _<_}
 use native.Mathlib.Nat.{le-of-lt}
@@ -19,9 +19,9 @@ use Rattle.image.specs.Calls.{checkOutcome, nodeRefusals}
 use Rattle.image.proofs.Laws.{not-wrong, right-not-wrong}
 use Rattle.image.proofs.Limits.{limit-none, limit-passes}
 use Rattle.image.proofs.Lowest.{lowest-passes, lowest-before}
-use Rattle.image.proofs.Judging.{node-wrong}
+use Rattle.image.proofs.Judging.{node-refused}
 use Rattle.statements.specs.Terms.{IsPrecision, IsLongEnough, IsRightAt}
-use Rattle.statements.proofs.Iff.{joined, both, is-precision, no-precision, is-below, not-below, wrong-word, no-wrong-word, some-wrong}
+use Rattle.statements.proofs.Iff.{joined, both, is-precision, no-precision, is-below, not-below, wrong-word, no-wrong-word, read-wrong, some-wrong}
 
 -- a lone test, with nothing behind it
 pub alone : {A : Type 0} {n : ℕ} → (A × (n ≡ n)) ↔ A
@@ -86,8 +86,4 @@ module _ (k : ℕ) (s : List ℕ) (j v : ℕ) where
   node-place p l h f =
       ap (λ (o : Outcome). o .place)
       (kept-answer k s (nodeRefusal k j ∷ wordRefusal k s j ∷ []) v p l
-      ∙ node-wrong k s j v h (wrong (isWrong k s j) refl))
-    where
-      wrong : (b : Bool) → isWrong k s j ≡ b → isWrong k s j ≡ true
-      wrong true e = e
-      wrong false e = absurd (f (not-wrong k s j e))
+      ∙ node-refused k s j v (le-of-lt h) (read-wrong k s j h f))

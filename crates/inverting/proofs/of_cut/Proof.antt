@@ -11,15 +11,13 @@ use borrow.Author.Needs.{needs}
 use Rattle.precision.specs.Precision.{wordWidth}
 use Rattle.answers.specs.Refusal.{served}
 use Rattle.answers.specs.Answer.{reciprocalGiven}
-use Rattle.image.specs.Image.{judgedWord}
+use Rattle.image.specs.Image.{nodeOf, judgedWord, judgedNode}
 use Rattle.image.specs.Refusals.{wordRefusal}
-use Rattle.image.proofs.Limits.{ImageKept, limit-none, limit-kept}
+use Rattle.image.proofs.Limits.{ImageKept, told, limit-none, limit-kept}
+use Rattle.image.proofs.Judging.{wordAtNode, atNode, word-wrong, word-right, node-wrong, node-right, right-node}
 use Rattle.interpolation.specs.Algorithm.{nodeNumber, productSum, chopped}
-use Rattle.interpolation.specs.Reciprocal.{nodeOf}
 use Rattle.interpolation.proofs.Cut.{cut-index-least, cut-index-most, cut-number-below, cut-fraction-below, cut-node-most, cut-node-falls}
-use Rattle.interpolation.proofs.Answers.{first-wrong, next-wrong, none-wrong, node-right}
-use Rattle.inverting.specs.Cut.{judgedNode}
-use Rattle.inverting.proofs.Nodes as nodes
+use Rattle.interpolation.proofs.Answers.{first-wrong, next-wrong, none-wrong}
 use Rattle.inverting.proofs.of_cut.Statement.{statement}
 use Rattle.inverting.proofs.of_cut.Tie as tie
 
@@ -60,28 +58,23 @@ count c = c .before .before .before .before .before .word-count .ensures ∙ kep
 number : (c : tie.After-high) → c .high .result - words c ≡ j c
 number c = ap (λ (i : ℕ). i - words c) (c .high .ensures) ∙ ap (λ (n : ℕ). t c / 2 ^ (k c + 3) - n) (count c)
 
--- what four equal numbers give is equal
-all : (g : ℕ → ℕ → ℕ → ℕ → ℕ) {w w' M M' n n' l l' : ℕ} → w ≡ w' → M ≡ M' → n ≡ n' → l ≡ l' → g w M n l ≡ g w' M' n' l'
-all g {w} {w'} {M} {M'} {n} {n'} {l} {l'} a b c d =
-    ap (λ (x : ℕ). g x M n l) a ∙ ap (λ (x : ℕ). g w' x n l) b ∙ ap (λ (x : ℕ). g w' M' x l) c ∙ ap (λ (x : ℕ). g w' M' n' x) d
-
 -- the numbers that the judging is told are those of the precision
-told : (c : tie.After-high) (g : ℕ → ℕ → ℕ → ℕ → ℕ)
+numbers : (c : tie.After-high) (g : ℕ → ℕ → ℕ → ℕ → ℕ)
     → g (c .before .before .before .before .word-width .result) (c .before .before .before .numerator .result) (words c) (c .before .before .lead .result)
     ≡ g (wordWidth (k c)) (2 ^ (3 * k c + 3)) (2 ^ k c) (2 ^ (2 * k c + 2))
-told c g =
-    all g
+numbers c g =
+    told (kept c) g
     (c .before .before .before .before .word-width .ensures)
-    (c .before .before .before .numerator .ensures ∙ kept c .numerator)
-    (count c)
-    (c .before .before .lead .ensures ∙ kept c .lead)
+    (c .before .before .before .numerator .ensures)
+    (c .before .before .before .before .before .word-count .ensures)
+    (c .before .before .lead .ensures)
 
 -- the lower node, as it is judged
-lower : (c : tie.After-judged-word) → c .judged-word .result .0 ≡ nodes.word (k (c .before)) (s (c .before)) (j (c .before)) (kept (c .before))
+lower : (c : tie.After-judged-word) → c .judged-word .result .0 ≡ wordAtNode (k (c .before)) (s (c .before)) (j (c .before))
 lower c =
     let at = c .before in
     c .judged-word .ensures
-    ∙ told at (λ (w M n l : ℕ). judgedWord (s at) w M n l (at .high .result - words at))
+    ∙ numbers at (λ (w M n l : ℕ). judgedWord (s at) w M n l (at .high .result - words at))
     ∙ ap (judgedWord (s at) (wordWidth (k at)) (2 ^ (3 * k at + 3)) (2 ^ k at) (2 ^ (2 * k at + 2))) (number at)
 
 -- behind the first test its word is right
@@ -91,16 +84,16 @@ lower-right : (c : tie.Else1)
 lower-right c =
     let word = c .before .before in
     let at = word .before in
-    let right = nodes.word-right (k at) (s at) (j at) (kept at) (below at) (λ e. omega (arith, c .if1 .left, lower word, e)) in
+    let right = word-right (k at) (s at) (j at) (kept at) (below at) (λ e. omega (arith, c .if1 .left, lower word, e)) in
     (right .0, lower word ∙ right .1)
 
 -- the upper node, as it is judged
 upper : (c : tie.After-judged-node)
-    → c .judged-node .result .0 ≡ nodes.atNode (k (c .before .before .before .before)) (s (c .before .before .before .before)) (j (c .before .before .before .before) + 1) (kept (c .before .before .before .before))
+    → c .judged-node .result .0 ≡ atNode (k (c .before .before .before .before)) (s (c .before .before .before .before)) (j (c .before .before .before .before) + 1)
 upper c =
     let at = c .before .before .before .before in
     c .judged-node .ensures
-    ∙ told at (λ (w M n l : ℕ). judgedNode (s at) w M n l (at .high .result - words at + 1))
+    ∙ numbers at (λ (w M n l : ℕ). judgedNode (s at) w M n l (at .high .result - words at + 1))
     ∙ ap (λ (i : ℕ). judgedNode (s at) (wordWidth (k at)) (2 ^ (3 * k at + 3)) (2 ^ k at) (2 ^ (2 * k at + 2)) (i + 1)) (number at)
 
 -- behind the second test its word is right, or it is the last node
@@ -110,7 +103,7 @@ upper-right : (c : tie.Else2)
 upper-right c =
     let node = c .before .before in
     let at = node .before .before .before .before in
-    let right = nodes.node-right (k at) (s at) (j at + 1) (kept at) (omega (arith, below at)) (λ e. omega (arith, c .if2 .left, upper node, e)) in
+    let right = node-right (k at) (s at) (j at + 1) (kept at) (omega (arith, below at)) (λ e. omega (arith, c .if2 .left, upper node, e)) in
     (right .0, upper node ∙ right .1)
 
 word-count-requires : tie.Need-word-count-requires
@@ -154,7 +147,7 @@ returns c =
     let at = word .before in
     ap (λ (p : ℕ). reciprocalGiven (record { number = 6; place = p; value = 0 })) (number at)
     ∙ ap reciprocalGiven
-    (sym (first-wrong (k at) (s at) (t at) (nodes.word-wrong (k at) (s at) (j at) (kept at) (below at) (omega (arith, lower word, c .if1 .taken)))))
+    (sym (first-wrong (k at) (s at) (t at) (word-wrong (k at) (s at) (j at) (kept at) (below at) (omega (arith, lower word, c .if1 .taken)))))
 
 add-judged-node : tie.Need-add-judged-node
 add-judged-node c =
@@ -179,7 +172,7 @@ returns-2 c =
     ap (λ (p : ℕ). reciprocalGiven (record { number = 6; place = p + 1; value = 0 })) (number at)
     ∙ ap reciprocalGiven
     (sym (next-wrong (k at) (s at) (t at) (lower-right (node .before) .0)
-    (nodes.node-wrong (k at) (s at) (j at + 1) (kept at) (omega (arith, below at)) (omega (arith, upper node, c .if2 .taken)))))
+    (node-wrong (k at) (s at) (j at + 1) (kept at) (omega (arith, below at)) (omega (arith, upper node, c .if2 .taken)))))
 
 low-requires : tie.Need-low-requires
 low-requires c κs = search needs
@@ -190,8 +183,8 @@ interpolated-requires c κs =
     let at = right .before .before .before .before .before .before in
     let lower = lower-right (right .before .before .before) in
     let upper = upper-right right in
-    let is-c = lower .1 ∙ node-right (k at) (s at) (j at) (le-of-lt (below at)) (lower .0) in
-    let is-d = upper .1 ∙ node-right (k at) (s at) (j at + 1) (omega (arith, below at)) (upper .0) in
+    let is-c = lower .1 ∙ right-node (k at) (s at) (j at) (le-of-lt (below at)) (lower .0) in
+    let is-d = upper .1 ∙ right-node (k at) (s at) (j at + 1) (omega (arith, below at)) (upper .0) in
     let most = cut-node-most (k at) (t at) in
     let falls = cut-node-falls (k at) (t at) in
     record {
