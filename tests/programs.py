@@ -1,4 +1,5 @@
 """Tests of the programs: what they print is compared with what reference.py writes."""
+import functools
 import pathlib
 import random
 import re
@@ -7,6 +8,7 @@ import time
 from fractions import Fraction
 
 import reference
+import script
 
 ROOT = pathlib.Path(__file__).resolve().parent.parent
 BIN = ROOT / "target" / "bin"
@@ -43,17 +45,32 @@ def run(name, pieces, pause=0.0):
 
 # ---- the cases
 
-def script():
-    return (ROOT / "crates" / "cases" / "stdin").read_bytes()
+def asked():
+    return script.STDIN.read_bytes()
+
+
+@functools.cache
+def printed():
+    """What the program prints on the script."""
+    return run("cases", [asked()])
+
+
+@functools.cache
+def expected():
+    """What the reference writes for the script."""
+    return reference.cases(asked()).encode()
+
+
+def stored_script():
+    return same(asked(), script.script().encode())
 
 
 def stored_output():
-    stored = (ROOT / "crates" / "cases" / "stdout").read_bytes()
-    return same(stored, reference.cases(script()).encode())
+    return same((ROOT / "crates" / "cases" / "stdout").read_bytes(), expected())
 
 
 def printed_output():
-    return same(run("cases", [script()]), reference.cases(script()).encode())
+    return same(printed(), expected())
 
 
 def random_operands(rng, k):
@@ -118,7 +135,7 @@ def reciprocals(output):
 
 def less_than_an_ulp():
     """Each reciprocal that the program gives, and there are many, is less than an ulp from the exact one."""
-    given = [(k, n, x, value) for _, k, n, x, number, _, value in reciprocals(run("cases", [script()])) if number == 0]
+    given = [(k, n, x, value) for _, k, n, x, number, _, value in reciprocals(printed()) if number == 0]
     for k, n, x, value in given:
         if abs(Fraction(value, 2 ** (2 * k + 1)) - Fraction(2 ** n, x)) >= Fraction(1, 2 ** (2 * k + 1)):
             return f"precision {k}, {x} with {n} fraction bits: {value}"
@@ -128,7 +145,7 @@ def less_than_an_ulp():
 def bits_to_the_right():
     """Operands whose first 2k + 3 fraction bits are the same get the same answer from the same bytes, refusals included."""
     found = {}
-    for changed, k, n, x, *answer in reciprocals(run("cases", [script()])):
+    for changed, k, n, x, *answer in reciprocals(printed()):
         if reference.in_range(k) and 2 * k + 3 <= n <= 63:
             found.setdefault((changed, k, x >> n - 2 * k - 3), {}).setdefault(tuple(answer), set()).add(n)
     for (_, k, bits), answers in found.items():
@@ -141,7 +158,7 @@ def bits_to_the_right():
 def bound_table():
     """Each call through a bound table stands below the same plain call, and is answered as that one was."""
     plain = {"kept": "node", "through": "invert"}
-    asked = re.split(r"\n(?! )", run("cases", [script()]).decode())
+    asked = re.split(r"\n(?! )", printed().decode())
     seen = set()
     for above, each in zip(asked, asked[1:]):
         word, _, rest = each.partition(" ")
@@ -181,25 +198,18 @@ def document_examples():
     for number, (found, expected) in enumerate(limits):
         if found != expected:
             return f"limit {number}: found {found}, expected {expected}"
-    return None if reference.product_sum(2, 135) == 3921 else "P of 135"
+    return None if reference.point(2, 135) * 2 ** 5 == 3921 else "P of 135"
 
 
 def document_cases(output):
-    """tests/document01.txt has the cases of document 01 for reciprocals, in its words, as `cases` must print them. The answers in it
-    were written down from the document. Each must be printed as it stands there."""
-    cases = re.split(r"\n(?=#)", (ROOT / "tests" / "document01.txt").read_text().strip("\n"))
-    missing = [case for case in cases if case + "\n" not in output]
-    if missing:
-        return f"not printed: {missing[0]}"
-    return None if len(cases) > 30 else f"there are only {len(cases)} cases"
-
-
-def document_cases_reference():
-    return document_cases(reference.cases(script()))
-
-
-def document_cases_program():
-    return document_cases(run("cases", [script()]).decode())
+    """tests/document01.txt has the cases of document 01 for reciprocals, in its words, as `cases` must print them, and says where their
+    answers are from. It must be printed as it stands, with no line between and none after its last case."""
+    document = (ROOT / "tests" / "document01.txt").read_bytes()
+    cases = re.findall(rb"^#.*\n(?!#)", document, re.M)
+    if len(cases) != 31:
+        return f"there are {len(cases)} cases"
+    below = output.split(script.MARK.encode(), 1)[1]
+    return same(below[:len(document) + 1], document + b"#")
 
 
 PRINTED_2 = b"""precision 2 bytes 3
@@ -222,9 +232,9 @@ def paper_rows(table):
     return [line for line in lines if line and not line.startswith("#")]
 
 
-def printed_below(heading, output):
+def printed_below(heading):
     """What `cases` prints below a heading of its script, up to the next one."""
-    return output.decode().split(f"# {heading}\n", 1)[1].split("\n#", 1)[0]
+    return printed().decode().split(f"# {heading}\n", 1)[1].split("\n#", 1)[0]
 
 
 def in_base_2(text):
@@ -243,7 +253,7 @@ def table1_reference():
 
 def table1_program():
     """The rows of Table 1 by the node values that the program prints."""
-    values = re.findall(r"^ (\d+) 0 0 (\d+)$", printed_below("Table 1 of document 002", run("cases", [script()])), re.M)
+    values = re.findall(r"^ (\d+) 0 0 (\d+)$", printed_below("Table 1 of document 002"), re.M)
     found = [f"1.{int(j):02b} xxxxx {int(value) // 128}.{int(value) % 128:07b}" for j, value in values]
     return None if found == paper_rows("table1") else f"found {found}"
 
@@ -258,7 +268,7 @@ def table2_reference():
 
 def table2_program():
     """The first and last columns of Table 2 by the reciprocals that the program prints."""
-    found = re.findall(r"^ (\d+) 0 0 (\d+)$", printed_below("Table 2 of document 002", run("cases", [script()])), re.M)
+    found = re.findall(r"^ (\d+) 0 0 (\d+)$", printed_below("Table 2 of document 002"), re.M)
     return None if [" ".join(pair) for pair in found] == paper_rows("table2") else f"found {found}"
 
 
@@ -359,9 +369,10 @@ def one_command():
 
 def tests():
     yield "document 01: the examples and limits of the image, and P of 135, by the reference", document_examples
-    yield "document 01: its cases for reciprocals, by the reference", document_cases_reference
-    yield "document 01: its cases for reciprocals, by the program", document_cases_program
+    yield "document 01: its cases for reciprocals, by the reference", lambda: document_cases(expected())
+    yield "document 01: its cases for reciprocals, by the program", lambda: document_cases(printed())
     yield "document 01: the printed table of precision 2, by the reference", document_table
+    yield "cases: the stored script below its mark is what tests/script.py writes", stored_script
     yield "cases: the stored output is what the reference writes", stored_output
     yield "cases: the program prints what the reference writes", printed_output
     for seed in range(12):

@@ -1,7 +1,7 @@
 #!/usr/bin/env python3
 """Writes what the programs must print. It shares no code with the library and works by another method:
-fractions for the nodes and the reciprocals, strings of '0' and '1' for the packing and the cutting of operands, the answers from
-the words of document 01.
+fractions for the nodes and for the points on the lines between them, strings of '0' and '1' for the packing and the cutting of
+operands, the answers from the words of document 01.
 
 usage: reference.py cases <SCRIPT   what the program `cases` prints on that script (crates/cases/stdin)
        reference.py table <INPUT    what the program `print_table` prints on that standard input
@@ -65,16 +65,16 @@ def piece(k, x):
     return int(cut(k, x)[0], 2) - 2 ** k
 
 
-def product_sum(k, x):
-    """P: 2^(k+3) times the point at f on the straight line from node j to node j + 1."""
-    f = int(cut(k, x)[1], 2)
-    lower, upper = node(k, piece(k, x)), node(k, piece(k, x) + 1)
-    return lower * 2 ** (k + 3) - (lower - upper) * f
+def point(k, x):
+    """P / 2^(k+3): the point on the straight line from node j to node j + 1 that is f / 2^(k+3) of the way along, in table units."""
+    way = Fraction(int(cut(k, x)[1], 2), 2 ** (k + 3))
+    start, end = node(k, piece(k, x)), node(k, piece(k, x) + 1)
+    return start * (1 - way) + end * way
 
 
 def reciprocal(k, n, x):
-    """R: P in ulps, rounded down; 2^(k+5) of what P counts make an ulp. It is less than an ulp off."""
-    ulps = math.floor(Fraction(product_sum(k, x), 2 ** (k + 5)))
+    """R: that point in ulps of four table units, rounded down. It is less than an ulp off."""
+    ulps = math.floor(point(k, x) / 4)
     assert abs(ulps * x - 2 ** (n + 2 * k + 1)) < x, f"precision {k}, {x} with {n} fraction bits: {ulps} is an ulp off, or more"
     return ulps
 

@@ -22,35 +22,35 @@ pub(crate) fn check(s: &[u8], k: u32) {
     answer(done.number, done.place, done.value);
 }
 
-fn read(r: NodeRead) {
+fn node_answer(r: NodeRead) {
     answer(r.number, r.place, r.value.0);
 }
 
 pub(crate) fn node(s: &[u8], k: u32, j: u32) {
-    read(reading::node(Precision(k), s, j));
+    node_answer(reading::node(Precision(k), s, j));
 }
 
-// Through a bound table.
+// Reads node j through a bound table.
 pub(crate) fn bound_node(s: &[u8], k: u32, j: u32) {
-    read(binding::bound_node(Precision(k), s, j));
+    node_answer(binding::bound_node(Precision(k), s, j));
 }
 
 pub(crate) fn word(s: &[u8], k: u32, j: u32) {
     bytes(reading::word_bytes(Precision(k), s, j));
 }
 
-fn given(x: u64, r: ReciprocalGiven) {
+fn reciprocal_answer(x: u64, r: ReciprocalGiven) {
     number(x);
     answer(r.number, r.place, r.value.0);
 }
 
 pub(crate) fn reciprocal(s: &[u8], k: u32, n: u32, x: u64) {
-    given(x, inverting::reciprocal(Precision(k), s, n, x));
+    reciprocal_answer(x, inverting::reciprocal(Precision(k), s, n, x));
 }
 
-// Through a bound table.
+// Takes the reciprocal through a bound table.
 pub(crate) fn bound_reciprocal(s: &[u8], k: u32, n: u32, x: u64) {
-    given(x, binding::bound_reciprocal(Precision(k), s, n, x));
+    reciprocal_answer(x, binding::bound_reciprocal(Precision(k), s, n, x));
 }
 
 // The reciprocals of an operand and of both its neighbours, modulo 2^64.
