@@ -13,6 +13,7 @@ import sys
 from fractions import Fraction
 
 LEAST, GREATEST = 1, 12
+MOST_BITS = 63  # of an operand's fraction
 LENGTHS = [1, 3, 8, 20, 48, 112, 256, 576, 1280, 2816, 6144, 13312]  # as document 01 lists them
 
 
@@ -120,7 +121,7 @@ def call_reciprocal(k, buffer, n, x):
     number = first_two(k, buffer)
     if number:
         return (number, 0, 0)
-    if n < 2 * k + 3 or n > 63:
+    if n < 2 * k + 3 or n > MOST_BITS:
         return (4, 0, 0)
     if not 2 ** n <= x <= 2 ** (n + 1) - 1:
         return (5, 0, 0)
@@ -218,7 +219,7 @@ class Cases:
         def answer(k):
             words = 2 ** k if in_range(k) else 0
             length = Fraction(words * width(k), 8)
-            return row(int(in_range(k)), width(k), words, length, LEAST, GREATEST, max(LENGTHS))
+            return row(int(in_range(k)), width(k), words, length, LEAST, GREATEST, max(LENGTHS), MOST_BITS)
         return self.each(first, last, answer)
 
     def check(self, first, last=0):

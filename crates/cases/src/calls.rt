@@ -78,15 +78,14 @@ fn entry(j: u32) -> u32 {
     nodes::NODES_8[j as usize]
 }
 
-// What a precision says of itself, and the limits that are named with it.
+// What a precision says of itself, the limits that are named with it, and the most fraction bits of an operand.
 pub(crate) fn precision(k: u32) {
     number(Precision(k).in_range() as u64);
     number(Precision(k).word_width());
     number(Precision(k).word_count() as u64);
     number(Precision(k).image_length() as u64);
-    answer(
-        Precision::LEAST,
-        Precision::GREATEST as u64,
-        Precision::LONGEST_IMAGE as u64,
-    );
+    number(Precision::LEAST as u64);
+    number(Precision::GREATEST as u64);
+    number(Precision::LONGEST_IMAGE as u64);
+    line(operand::MOST_BITS as u64);
 }
