@@ -8,6 +8,7 @@ use native.Mathlib.Omega.{arith}
 use lib.Pow.{pow-pos, pow-mono}
 use Rattle.quotient.specs.Quotient.{roundedUp}
 use Rattle.operand.proofs.Laws.{cut-split, cut-rest, cut-range}
+use Rattle.interpolation.specs.Algorithm.{sumOver}
 use Rattle.interpolation.specs.Reciprocal.{reciprocal}
 use Rattle.interpolation.proofs.Core as core
 use Rattle.interpolation.proofs.Table as table
@@ -20,14 +21,14 @@ longer : (k b : ℕ) → 2 ^ (2 * k + (b + 1)) ≡ 2 ^ (2 * k + b + 1)
 longer k b = ap (λ (e : ℕ). 2 ^ e) {x = 2 * k + (b + 1)} {y = 2 * k + b + 1} (omega arith)
 
 module _ (a b k : ℕ) where
-  -- P and R of a cut operand t, by any nodes c
-  abbrev pub productSumBy : (ℕ → ℕ) → ℕ → ℕ
-  productSumBy c t = c (t / 2 ^ (k + b) - 2 ^ k) * 2 ^ (k + b) - (c (t / 2 ^ (k + b) - 2 ^ k) - c (t / 2 ^ (k + b) - 2 ^ k + 1)) * (t % 2 ^ (k + b))
+  -- j and R of a cut operand t, by any nodes c
+  abbrev numberOf : ℕ → ℕ
+  numberOf t = t / 2 ^ (k + b) - 2 ^ k
 
   abbrev pub reciprocalBy : (ℕ → ℕ) → ℕ → ℕ
-  reciprocalBy c t = productSumBy c t / 2 ^ (k + (a + b))
+  reciprocalBy c t = sumOver (2 ^ (k + b)) (c (numberOf t)) (c (numberOf t + 1)) (t % 2 ^ (k + b)) / 2 ^ (k + (a + b))
 
-  -- N
+  -- N = 2^(4k+b+1)
   abbrev exactAt : ℕ
   exactAt = 2 * 2 ^ b * (2 ^ k * 2 ^ k * 2 ^ k * 2 ^ k)
 

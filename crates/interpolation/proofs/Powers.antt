@@ -6,7 +6,7 @@ use native.Mathlib.Omega.{arith}
 use lib.Pow.{pow-add}
 
 module _ (k a b : ℕ) where
-  -- F
+  -- F, the width of a piece
   pub width : 2 ^ (k + b) ≡ 2 ^ b * 2 ^ k
   width = omega (arith, pow-add 2 k b)
 
@@ -19,7 +19,7 @@ module _ (k a b : ℕ) where
   cubed =
       ap (λ (e : ℕ). 2 ^ e) {x = 3 * k} {y = k + k + k} (omega arith) ∙ pow-add 2 (k + k) k ∙ ap (λ (x : ℕ). x * 2 ^ k) (pow-add 2 k k)
 
-  -- M
+  -- M, what is divided to give a node
   pub numerator : 2 ^ (3 * k + (a + 1)) ≡ 2 * 2 ^ a * (2 ^ k * 2 ^ k * 2 ^ k)
   numerator = pow-add 2 (3 * k) (a + 1) ∙ omega (arith, ap (λ (x : ℕ). x * 2 ^ (a + 1)) cubed, ap (λ (x : ℕ). 2 ^ k * 2 ^ k * 2 ^ k * x) (pow-add 2 a 1))
 

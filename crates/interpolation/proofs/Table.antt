@@ -6,6 +6,7 @@ use mathlib.Core.Path.{_≡_, ap}
 use Prim.Native.Nat.{ℕ, _+_, _-_, _*_, _/_, _%_, _≤_, _<_}
 use native.Mathlib.Nat.{add-assoc, le-of-lt, mul-pos, mul-le-mul-left, div-mul-le-self, lt-div-mul-add}
 use native.Mathlib.Omega.{arith}
+use Rattle.interpolation.specs.Algorithm.{sumOver}
 use Rattle.interpolation.proofs.Core as core
 use Rattle.interpolation.proofs.Pieces as pieces
 
@@ -29,14 +30,14 @@ pub record Table (A B K : ℕ) (c H D : ℕ → ℕ) : Type 0 where
 sum-more : (c' d f g : ℕ) → (c' + d) * (f + g) - d * f ≡ (c' + d) * g + c' * f
 sum-more c' d f g = omega arith
 
-pub sum-parts : (c c' F f : ℕ) → c' ≤ c → f ≤ F → c * F - (c - c') * f ≡ c * (F - f) + c' * f
+pub sum-parts : (c c' F f : ℕ) → c' ≤ c → f ≤ F → sumOver F c c' f ≡ c * (F - f) + c' * f
 sum-parts c c' F f h l =
     let e : c' + (c - c') ≡ c = omega arith in
     let w : f + (F - f) ≡ F = omega arith in
     rw (e, w) at (sum-more c' (c - c') f (F - f))
 
 -- P lies between both nodes
-pub sum-least : (c c' F f : ℕ) → c' ≤ c → f ≤ F → c' * F ≤ c * F - (c - c') * f
+pub sum-least : (c c' F f : ℕ) → c' ≤ c → f ≤ F → c' * F ≤ sumOver F c c' f
 sum-least c c' F f h l =
     let w : f + (F - f) ≡ F = omega arith in
     rw (sum-parts c c' F f h l) (omega (arith, mul-le-mul-left (F - f) h, ap (λ (x : ℕ). c' * x) w))
@@ -67,7 +68,7 @@ module _ {A B K : ℕ} {c H D : ℕ → ℕ} (table : Table A B K c H D) (t : �
 
   -- P and R of t
   abbrev pub productSumAt : ℕ
-  productSumAt = c j * (B * K) - (c j - c (j + 1)) * f
+  productSumAt = sumOver (B * K) (c j) (c (j + 1)) f
 
   abbrev pub reciprocalAt : ℕ
   reciprocalAt = productSumAt / (A * (B * K))

@@ -15,9 +15,13 @@ nodeNumber k t = index k t - 2 ^ k
 abbrev pub fraction : ℕ → ℕ → ℕ
 fraction k t = t % 2 ^ (k + 3)
 
--- P = c × 2^(k+3) - (c - c') × f, with c and c' the nodes at the ends of the piece
+-- P over a piece of any width F: c × F - (c - c') × f, with c and c' the nodes at its ends
+abbrev pub sumOver : ℕ → ℕ → ℕ → ℕ → ℕ
+sumOver F c c' f = c * F - (c - c') * f
+
+-- P = c × 2^(k+3) - (c - c') × f
 abbrev pub productSum : ℕ → ℕ → ℕ → ℕ → ℕ
-productSum k c c' f = c * 2 ^ (k + 3) - (c - c') * f
+productSum k = sumOver (2 ^ (k + 3))
 
 -- R = floor(P / 2^(k+5)), in ulps
 abbrev pub chopped : ℕ → ℕ → ℕ

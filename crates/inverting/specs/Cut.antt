@@ -13,9 +13,9 @@ pub record IsCut (k : ℕ) (s : List ℕ) (t : ℕ) : Type 0 where
   pub least : 2 ^ (2 * k + 3) ≤ t
   pub most : t < 2 ^ (2 * k + 4)
 
--- c and c' can stand at the ends of a piece, and f is a fraction of it
-pub record IsPiece (k c c' f : ℕ) : Type 0 where
-  pub high : k ≤ 12
-  pub first : c ≤ 2 ^ (2 * k + 3)
+-- c and c' can stand at the ends of a piece of width 2^w, f is a fraction of it, and P has its place in 64 bits
+pub record IsPiece (c c' f w : ℕ) : Type 0 where
+  pub small : w < 64
+  pub fits : c * 2 ^ w < 2 ^ 64
   pub falls : c' ≤ c
-  pub inside : f < 2 ^ (k + 3)
+  pub inside : f ≤ 2 ^ w

@@ -1,7 +1,8 @@
 // The reciprocal of an operand by an image.
 ghost use mathlib.Core.Path.{_≡_};
+ghost use Prim.Native.Nat.{_/_, _^_};
 ghost use Rattle.answers.specs.Answer.{reciprocalGiven};
-ghost use Rattle.interpolation.specs.Algorithm.{productSum, chopped};
+ghost use Rattle.interpolation.specs.Algorithm.{sumOver};
 ghost use Rattle.interpolation.specs.Calls.{cutOutcome, reciprocalOutcome};
 ghost use Rattle.inverting.specs.Cut.{IsCut, IsPiece};
 use answers::ReciprocalGiven;
@@ -9,13 +10,13 @@ use precision::Precision;
 use units::TableUnits;
 use units::Ulps;
 
-// R at the fraction f of a piece whose nodes are c and d.
-fn interpolated(k: Precision, c: TableUnits, d: TableUnits, f: u64) -> Ulps
-    requires { ⌜ IsPiece (k .0) (c .0) (d .0) f ⌝ }
-    ensures { λ r. ⌜ r .0 ≡ chopped (k .0) (productSum (k .0) (c .0) (d .0) f) ⌝ }
+// R at the fraction f of a piece of width 2^piece between the nodes lower and upper, where 2^unit of P make an ulp.
+fn interpolated(lower: TableUnits, upper: TableUnits, f: u64, piece: u32, unit: u32) -> Ulps
+    requires { ⌜ IsPiece (lower .0) (upper .0) f piece ⌝ }
+    ensures { λ r. ⌜ r .0 ≡ sumOver (2 ^ piece) (lower .0) (upper .0) f / 2 ^ unit ⌝ }
 {
-    let sum = c.0 * bits::power(k.0 + 3) - (c.0 - d.0) * f;
-    Ulps(bits::high(sum, k.0 + 5))
+    let sum = lower.0 * bits::power(piece) - (lower.0 - upper.0) * f;
+    Ulps(bits::high(sum, unit))
 }
 
 // The reciprocal of a cut operand t, where k and the image keep their limits. The words at both ends of its piece are judged, the
@@ -30,16 +31,16 @@ fn of_cut(k: Precision, image: &[u8], t: u64) -> ReciprocalGiven
     let lead = nodes::lead(k);
     let piece = k.0 + 3;
     let j = bits::high(t, piece) as u32 - count;
-    let c = image::judged_word(image, width, numerator, count, lead, j);
-    if c.0 == 0 {
+    let lower = image::judged_word(image, width, numerator, count, lead, j);
+    if lower.0 == 0 {
         return ReciprocalGiven {
             number: 6,
             place: j as u64,
             value: Ulps(0),
         };
     }
-    let d = image::judged_node(image, width, numerator, count, lead, j + 1);
-    if d.0 == 0 {
+    let upper = image::judged_node(image, width, numerator, count, lead, j + 1);
+    if upper.0 == 0 {
         return ReciprocalGiven {
             number: 6,
             place: j as u64 + 1,
@@ -50,7 +51,7 @@ fn of_cut(k: Precision, image: &[u8], t: u64) -> ReciprocalGiven
     ReciprocalGiven {
         number: 0,
         place: 0,
-        value: interpolated(k, c, d, f),
+        value: interpolated(lower, upper, f, piece, k.0 + 5),
     }
 }
 

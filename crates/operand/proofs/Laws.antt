@@ -1,7 +1,7 @@
 -- The laws of an operand: when it is normalised, what its cut is, and what bits written to its right change.
 -- Assumes nothing.
 use mathlib.Core.Path.{_≡_, sym, ap, _∙_}
-use mathlib.Core.Bool.{and-eq-true-iff}
+use mathlib.Core.Bool.{true, and-eq-true-iff}
 use Prim.Native.Nat.{ℕ, _+_, _-_, _*_, _/_, _%_, _^_, _≤_, _<_}
 use native.Mathlib.Nat.{mod-lt, div-eq-of-lt-le}
 use native.Mathlib.Omega.{arith}
@@ -9,7 +9,25 @@ use lib.Dec.{eqb, leb, ltb}
 use lib.Pow.{pow-add, pow-pos, split, shr-shr, high}
 use borrow.Author.Tests.{leb-true, ltb-true, eqb-true, le-leb, lt-ltb, eq-eqb}
 use Rattle.bools.proofs.Bools.{same}
-use Rattle.operand.specs.Operand.{isNormalised, cutOperand}
+use Rattle.operand.specs.Operand.{cutBits, mostBits, isFractionCount, isNormalised, cutOperand}
+
+-- n passes its test exactly from 2k + 3 to 63
+pub count-in : (k n : ℕ) → isFractionCount k n ≡ true → (2 * k + 3 ≤ n) × (n ≤ 63)
+count-in k n e =
+    let b = and-eq-true-iff (leb (cutBits k) n) (leb n mostBits) .0 e in
+    (leb-true (2 * k + 3) n (b .0), leb-true n 63 (b .1))
+
+pub in-count : (k n : ℕ) → 2 * k + 3 ≤ n → n ≤ 63 → isFractionCount k n ≡ true
+in-count k n l h = simp (le-leb (2 * k + 3) n l, le-leb n 63 h)
+
+-- and X exactly from 2^n up to 2^(n+1)
+pub normalised-in : (n X : ℕ) → isNormalised n X ≡ true → (2 ^ n ≤ X) × (X < 2 ^ (n + 1))
+normalised-in n X e =
+    let b = and-eq-true-iff (leb (2 ^ n) X) (ltb X (2 ^ (n + 1))) .0 e in
+    (leb-true (2 ^ n) X (b .0), ltb-true X (2 ^ (n + 1)) (b .1))
+
+pub in-normalised : (n X : ℕ) → 2 ^ n ≤ X → X < 2 ^ (n + 1) → isNormalised n X ≡ true
+in-normalised n X l h = simp (le-leb (2 ^ n) X l, lt-ltb X (2 ^ (n + 1)) h)
 
 -- X / 2^n is 1 from 2^n up to 2^(n+1)
 pub high-one : (n X : ℕ) → 2 ^ n ≤ X → X < 2 ^ (n + 1) → X / 2 ^ n ≡ 1
@@ -26,12 +44,8 @@ one-high n X e =
 pub normalised-high : (n X : ℕ) → isNormalised n X ≡ eqb (X / 2 ^ n) 1
 normalised-high n X =
     same (isNormalised n X) (eqb (X / 2 ^ n) 1)
-    (λ t.
-    let b = and-eq-true-iff (leb (2 ^ n) X) (ltb X (2 ^ (n + 1))) .0 t in
-    eq-eqb (X / 2 ^ n) 1 (high-one n X (leb-true (2 ^ n) X (b .0)) (ltb-true X (2 ^ (n + 1)) (b .1))))
-    (λ t.
-    let b = one-high n X (eqb-true (X / 2 ^ n) 1 t) in
-    rw (le-leb (2 ^ n) X (b .0), lt-ltb X (2 ^ (n + 1)) (b .1)))
+    (λ t. let b = normalised-in n X t in eq-eqb (X / 2 ^ n) 1 (high-one n X (b .0) (b .1)))
+    (λ t. let b = one-high n X (eqb-true (X / 2 ^ n) 1 t) in in-normalised n X (b .0) (b .1))
 
 -- X cut to c of its n fraction bits
 module _ (c n : ℕ) (enough : c ≤ n) where

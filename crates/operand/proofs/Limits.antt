@@ -1,15 +1,14 @@
 -- What the limits of n and X mean for every list of refusals that begins with them.
 -- Assumes nothing.
 use mathlib.Core.Path.{_≡_}
-use mathlib.Core.Bool.{true, and-eq-true-iff}
 use mathlib.Core.List.{List, [], _∷_}
 use Prim.Native.Nat.{ℕ, _+_, _*_, _^_, _≤_, _<_}
-use lib.Dec.{leb, ltb}
-use borrow.Author.Tests.{leb-true, ltb-true, le-leb, lt-ltb, not-false}
+use borrow.Author.Tests.{not-false}
 use Rattle.answers.specs.Refusal.{Refusal, outcome}
 use Rattle.answers.proofs.Front.{limited, front-refuses, front-passes, front-none}
-use Rattle.operand.specs.Operand.{cutBits, mostBits, isFractionCount, isNormalised}
+use Rattle.operand.specs.Operand.{isFractionCount, isNormalised}
 use Rattle.operand.specs.Refusals.{fractionRefusal, operandRefusal, brokenOperand}
+use Rattle.operand.proofs.Laws.{count-in, in-count, normalised-in, in-normalised}
 
 -- both limits are kept: n is from 2k + 3 to 63, and X is normalised
 pub record OperandKept (k n X : ℕ) : Type 0 where
@@ -17,24 +16,6 @@ pub record OperandKept (k n X : ℕ) : Type 0 where
   pub most : n ≤ 63
   pub least : 2 ^ n ≤ X
   pub below : X < 2 ^ (n + 1)
-
--- n passes its test exactly from 2k + 3 to 63
-pub count-in : (k n : ℕ) → isFractionCount k n ≡ true → (2 * k + 3 ≤ n) × (n ≤ 63)
-count-in k n e =
-    let b = and-eq-true-iff (leb (cutBits k) n) (leb n mostBits) .0 e in
-    (leb-true (2 * k + 3) n (b .0), leb-true n 63 (b .1))
-
-pub in-count : (k n : ℕ) → 2 * k + 3 ≤ n → n ≤ 63 → isFractionCount k n ≡ true
-in-count k n l h = simp (le-leb (2 * k + 3) n l, le-leb n 63 h)
-
--- and X exactly from 2^n up to 2^(n+1)
-pub normalised-in : (n X : ℕ) → isNormalised n X ≡ true → (2 ^ n ≤ X) × (X < 2 ^ (n + 1))
-normalised-in n X e =
-    let b = and-eq-true-iff (leb (2 ^ n) X) (ltb X (2 ^ (n + 1))) .0 e in
-    (leb-true (2 ^ n) X (b .0), ltb-true X (2 ^ (n + 1)) (b .1))
-
-pub in-normalised : (n X : ℕ) → 2 ^ n ≤ X → X < 2 ^ (n + 1) → isNormalised n X ≡ true
-in-normalised n X l h = simp (le-leb (2 ^ n) X l, lt-ltb X (2 ^ (n + 1)) h)
 
 module _ (k n X : ℕ) where
   -- a broken limit turns the call back

@@ -118,7 +118,7 @@ module _ (k n X : ℕ) where
 
   -- no difference falls below 0 where 2k + 3 ≤ n and X is normalised
   pub differences : 2 * k + 3 ≤ n → IsNormalised n X → (2 ^ k + j ≡ i) × (j < 2 ^ k) × (c (j + 1) ≤ c j) × ((c j - c (j + 1)) * f ≤ c j * 2 ^ (k + 3))
-  differences = Reciprocals.whole k n X
+  differences = Reciprocals.differences k n X
 
 -- The image.
 module _ (k : ℕ) (p : IsPrecision k) where
@@ -162,20 +162,20 @@ module _ (k : ℕ) (p : IsPrecision k) where
   check-passes-bytes s b l = joined (check-passes-words s l) (right-front k (p .0) s b l, front-right k (p .0) s)
 
 -- What an answer depends on.
-module _ (k : ℕ) (s t : List ℕ) (l : IsLongEnough k s) (m : IsLongEnough k t) where
+module _ (k : ℕ) (s s' : List ℕ) (l : IsLongEnough k s) (m : IsLongEnough k s') where
   -- a node's answer depends on its own word alone, and at node 2^k on none
-  pub node-by-its-word : (j : ℕ) → (j < 2 ^ k → wordOf k s j ≡ wordOf k t j) → nodeOutcome k s j ≡ nodeOutcome k t j
-  node-by-its-word = Depends.node-same k s t l m
+  pub node-by-its-word : (j : ℕ) → (j < 2 ^ k → wordOf k s j ≡ wordOf k s' j) → nodeOutcome k s j ≡ nodeOutcome k s' j
+  node-by-its-word = Depends.node-same k s s' l m
 
   -- the check's depends on the words of the image alone
-  pub check-by-words : ((j : ℕ) → j < 2 ^ k → wordOf k s j ≡ wordOf k t j) → checkOutcome k s ≡ checkOutcome k t
-  check-by-words = Depends.check-same k s t l m
+  pub check-by-words : ((j : ℕ) → j < 2 ^ k → wordOf k s j ≡ wordOf k s' j) → checkOutcome k s ≡ checkOutcome k s'
+  check-by-words = Depends.check-same k s s' l m
 
   -- the reciprocal's depends on the words of j and j + 1 alone, and where j + 1 is 2^k on that of j
-  pub reciprocal-by-words : (n X : ℕ) → wordOf k s (j k n X) ≡ wordOf k t (j k n X) → (j k n X + 1 < 2 ^ k → wordOf k s (j k n X + 1) ≡ wordOf k t (j k n X + 1)) → reciprocalOutcome k s n X ≡ reciprocalOutcome k t n X
-  reciprocal-by-words n X e = Depends.reciprocal-same k s t l m n X (λ h. e)
+  pub reciprocal-by-words : (n X : ℕ) → wordOf k s (j k n X) ≡ wordOf k s' (j k n X) → (j k n X + 1 < 2 ^ k → wordOf k s (j k n X + 1) ≡ wordOf k s' (j k n X + 1)) → reciprocalOutcome k s n X ≡ reciprocalOutcome k s' n X
+  reciprocal-by-words n X e = Depends.reciprocal-same k s s' l m n X (λ h. e)
 
-  pub reciprocal-by-lower-word : (n X : ℕ) → j k n X + 1 ≡ 2 ^ k → wordOf k s (j k n X) ≡ wordOf k t (j k n X) → reciprocalOutcome k s n X ≡ reciprocalOutcome k t n X
+  pub reciprocal-by-lower-word : (n X : ℕ) → j k n X + 1 ≡ 2 ^ k → wordOf k s (j k n X) ≡ wordOf k s' (j k n X) → reciprocalOutcome k s n X ≡ reciprocalOutcome k s' n X
   reciprocal-by-lower-word n X last e = reciprocal-by-words n X e (λ h. absurd (omega (arith, h, last)))
 
 -- The reciprocal reads both words, whatever f is: a wrong one is named, the lower first.
@@ -191,23 +191,23 @@ module _ (k : ℕ) (s : List ℕ) (n X : ℕ) (p : IsPrecision k) (l : IsLongEno
   upper-word-named-at-0 e = upper-word-named
 
 -- The word of node j stands in its own bytes.
-pub word-by-its-bytes : (k : ℕ) (s t : List ℕ) (j : ℕ) → ((i : ℕ) → j * (2 * k + 2) / 8 ≤ i → i ≤ (j * (2 * k + 2) + (2 * k + 2) - 1) / 8 → getD s i 0 ≡ getD t i 0) → wordOf k s j ≡ wordOf k t j
-word-by-its-bytes k s t j = Depends.word-same k s t j
+pub word-by-its-bytes : (k : ℕ) (s s' : List ℕ) (j : ℕ) → ((i : ℕ) → j * (2 * k + 2) / 8 ≤ i → i ≤ (j * (2 * k + 2) + (2 * k + 2) - 1) / 8 → getD s i 0 ≡ getD s' i 0) → wordOf k s j ≡ wordOf k s' j
+word-by-its-bytes k s s' j = Depends.word-same k s s' j
 
 -- Bytes past the image are not read: two buffers with the same image at their front get the same answers, whatever follows it and
 -- however long they are.
-module _ (k : ℕ) (s t : List ℕ) (p : IsPrecision k) (l : IsLongEnough k s) (m : IsLongEnough k t) (e : take (imageLength k) s ≡ take (imageLength k) t) where
-  pub check-by-image : checkOutcome k s ≡ checkOutcome k t
-  check-by-image = Depends.front-check k s t p l m e
+module _ (k : ℕ) (s s' : List ℕ) (p : IsPrecision k) (l : IsLongEnough k s) (m : IsLongEnough k s') (e : take (imageLength k) s ≡ take (imageLength k) s') where
+  pub check-by-image : checkOutcome k s ≡ checkOutcome k s'
+  check-by-image = Depends.front-check k s s' p l m e
 
-  pub node-by-image : (j : ℕ) → nodeOutcome k s j ≡ nodeOutcome k t j
-  node-by-image = Depends.front-node k s t p l m e
+  pub node-by-image : (j : ℕ) → nodeOutcome k s j ≡ nodeOutcome k s' j
+  node-by-image = Depends.front-node k s s' p l m e
 
-  pub reciprocal-by-image : (n X : ℕ) → reciprocalOutcome k s n X ≡ reciprocalOutcome k t n X
-  reciprocal-by-image = Depends.front-reciprocal k s t p l m e
+  pub reciprocal-by-image : (n X : ℕ) → reciprocalOutcome k s n X ≡ reciprocalOutcome k s' n X
+  reciprocal-by-image = Depends.front-reciprocal k s s' p l m e
 
-  pub part-by-image : (j : ℕ) → shownPart k s j ≡ shownPart k t j
-  part-by-image = Depends.front-part k s t p l m e
+  pub part-by-image : (j : ℕ) → shownPart k s j ≡ shownPart k s' j
+  part-by-image = Depends.front-part k s s' p l m e
 
 -- A zero word means 2^(2k+3) at node 0. At any other node it is wrong.
 module _ (k : ℕ) (s : List ℕ) where

@@ -51,10 +51,10 @@ module _ (k n m X b : ℕ) (enough : 2 * k + 3 ≤ n) (bits : b < 2 ^ m) where
 -- R runs from 2^(2k) to 2^(2k+1).
 module _ (k n X : ℕ) (enough : 2 * k + 3 ≤ n) (least : 2 ^ n ≤ X) (below : X < 2 ^ (n + 1)) where
   pub reciprocal-from : 2 ^ (2 * k) ≤ reciprocal k n X
-  reciprocal-from = Reciprocals.from k n X enough (least, below)
+  reciprocal-from = Reciprocals.reciprocal-least k n X enough (least, below)
 
   pub reciprocal-to : reciprocal k n X ≤ 2 ^ (2 * k + 1)
-  reciprocal-to = Reciprocals.to k n X enough (least, below)
+  reciprocal-to = Reciprocals.reciprocal-most k n X enough (least, below)
 
 -- The difference of two neighbouring nodes and f are each below 2^(k+3) (document 002, Lemma 1), at every node and at every t,
 pub node-difference : (k j : ℕ) → node k j - node k (j + 1) < 2 ^ (k + 3)

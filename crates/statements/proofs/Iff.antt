@@ -16,7 +16,7 @@ use Rattle.image.specs.Image.{isWrong, firstWrong}
 use Rattle.image.proofs.Laws.{not-wrong, right-not-wrong}
 use Rattle.image.proofs.Lowest.{lowest-passes, lowest-before, lowest-none}
 use Rattle.operand.specs.Operand.{isFractionCount, isNormalised}
-use Rattle.operand.proofs.Limits.{count-in, in-count, normalised-in, in-normalised}
+use Rattle.operand.proofs.Laws.{count-in, in-count, normalised-in, in-normalised}
 use Rattle.statements.specs.Terms.{IsPrecision, IsRightAt, IsFractionCount, IsNormalised}
 
 pub joined : {A B C : Type 0} → A ↔ B → B ↔ C → A ↔ C

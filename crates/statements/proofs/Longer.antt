@@ -5,8 +5,7 @@ use mathlib.Core.List.{List}
 use Prim.Native.Nat.{ℕ, _+_, _*_, _^_, _≤_, _<_}
 use native.Mathlib.Omega.{arith}
 use Rattle.operand.specs.Operand.{cutOperand, cutBits}
-use Rattle.operand.proofs.Laws.{cut-longer, normalised-longer}
-use Rattle.operand.proofs.Limits.{in-count}
+use Rattle.operand.proofs.Laws.{cut-longer, normalised-longer, in-count}
 use Rattle.interpolation.specs.Algorithm.{cutReciprocal}
 use Rattle.interpolation.specs.Reciprocal.{reciprocal}
 use Rattle.interpolation.specs.Calls.{reciprocalOutcome}

@@ -78,9 +78,9 @@ module _ (k n X : ℕ) where
   has-word e o = let r = cut-in-range e o in cut-number-below k (cutOperand k n X) (r .0) (r .1)
 
   -- no difference of Algorithm 2 falls below 0
-  pub whole : 2 * k + 3 ≤ n → IsNormalised n X
+  pub differences : 2 * k + 3 ≤ n → IsNormalised n X
       → (2 ^ k + j ≡ index k (cutOperand k n X)) × (j < 2 ^ k) × (node k (j + 1) ≤ node k j) × ((node k j - node k (j + 1)) * fraction k (cutOperand k n X) ≤ node k j * 2 ^ (k + 3))
-  whole e o =
+  differences e o =
       let r = cut-in-range e o in (
         cut-index k (cutOperand k n X) (r .0) (r .1),
         has-word e o,
@@ -89,11 +89,11 @@ module _ (k n X : ℕ) where
       )
 
   -- R runs from 2^(2k) to 2^(2k+1)
-  pub from : 2 * k + 3 ≤ n → IsNormalised n X → 2 ^ (2 * k) ≤ reciprocal k n X
-  from e o = let r = cut-in-range e o in cut-reciprocal-least k (cutOperand k n X) (r .0) (r .1)
+  pub reciprocal-least : 2 * k + 3 ≤ n → IsNormalised n X → 2 ^ (2 * k) ≤ reciprocal k n X
+  reciprocal-least e o = let r = cut-in-range e o in cut-reciprocal-least k (cutOperand k n X) (r .0) (r .1)
 
-  pub to : 2 * k + 3 ≤ n → IsNormalised n X → reciprocal k n X ≤ 2 ^ (2 * k + 1)
-  to e o = let r = cut-in-range e o in cut-reciprocal-most k (cutOperand k n X) (r .0) (r .1)
+  pub reciprocal-most : 2 * k + 3 ≤ n → IsNormalised n X → reciprocal k n X ≤ 2 ^ (2 * k + 1)
+  reciprocal-most e o = let r = cut-in-range e o in cut-reciprocal-most k (cutOperand k n X) (r .0) (r .1)
 
   module _ (s : List ℕ) where
     abbrev v : ℕ
@@ -167,5 +167,5 @@ module _ (k n X : ℕ) where
         ap (λ (a : Outcome). a .value) (gives (t .0) (t .1) (t .2) (t .3) (t .4) (t .5))
 
     -- and has what R has for every operand in range
-    pub given-has : reciprocalOutcome k s n X .number ≡ 0 → (P : ℕ → Type 0) → (2 * k + 3 ≤ n → 2 ^ n ≤ X → X < 2 ^ (n + 1) → P (reciprocal k n X)) → P (reciprocalOutcome k s n X .value)
-    given-has e P holds = let t = reciprocal-0 .0 e in rw (given-right e) (holds (t .2 .0) (t .3 .0) (t .3 .1))
+    pub given-has : reciprocalOutcome k s n X .number ≡ 0 → (Q : ℕ → Type 0) → (2 * k + 3 ≤ n → 2 ^ n ≤ X → X < 2 ^ (n + 1) → Q (reciprocal k n X)) → Q (reciprocalOutcome k s n X .value)
+    given-has e Q holds = let t = reciprocal-0 .0 e in rw (given-right e) (holds (t .2 .0) (t .3 .0) (t .3 .1))

@@ -4,7 +4,7 @@ use mathlib.Core.Path.{_≡_, sym, ap, _∙_}
 use mathlib.Core.Bool.{false}
 use mathlib.Core.List.{List}
 use Prim.Native.Nat.{ℕ, _+_, _-_, _*_, _/_, _^_, _≤_, _<_}
-use native.Mathlib.Nat.{le-of-lt}
+use native.Mathlib.Nat.{le-of-lt, mul-le-mul-right}
 use native.Mathlib.Omega.{arith}
 use lib.Pow.{pow-mono}
 use borrow.Author.Needs.{needs}
@@ -16,7 +16,7 @@ use Rattle.image.specs.Refusals.{wordRefusal}
 use Rattle.image.proofs.Limits.{ImageKept, told, limit-none, limit-kept}
 use Rattle.image.proofs.Judging.{wordAtNode, atNode, word-wrong, word-right, node-wrong, node-right, right-node}
 use Rattle.interpolation.specs.Algorithm.{nodeNumber, productSum, chopped}
-use Rattle.interpolation.proofs.Cut.{cut-index-least, cut-index-most, cut-number-below, cut-fraction-below, cut-node-most, cut-node-falls}
+use Rattle.interpolation.proofs.Cut.{cut-index-least, cut-index-most, cut-number-below, cut-fraction-below, cut-node-most, cut-node-falls, product-most}
 use Rattle.interpolation.proofs.Answers.{first-wrong, next-wrong, none-wrong}
 use Rattle.inverting.proofs.of_cut.Statement.{statement}
 use Rattle.inverting.proofs.of_cut.Tie as tie
@@ -106,6 +106,31 @@ upper-right c =
     let right = node-right (k at) (s at) (j at + 1) (kept at) (omega (arith, below at)) (λ e. omega (arith, c .if2 .left, upper node, e)) in
     (right .0, upper node ∙ right .1)
 
+-- so the nodes fall from the one to the other
+falling : (c : tie.Else2) → c .before .before .judged-node .result .0 ≤ c .before .before .before .before .before .judged-word .result .0
+falling c =
+    let at = c .before .before .before .before .before .before in
+    let lower = lower-right (c .before .before .before) in
+    let upper = upper-right c in
+    omega (
+      arith,
+      lower .1 ∙ right-node (k at) (s at) (j at) (le-of-lt (below at)) (lower .0),
+      upper .1 ∙ right-node (k at) (s at) (j at + 1) (omega (arith, below at)) (upper .0),
+      cut-node-falls (k at) (t at),
+    )
+
+-- and their products by the width of a piece have few bits
+products : (c : tie.Else2)
+    → (c .before .before .before .before .before .judged-word .result .0 * 2 ^ (k (c .before .before .before .before .before .before) + 3) ≤ 2 ^ 42)
+    × (c .before .before .judged-node .result .0 * 2 ^ (k (c .before .before .before .before .before .before) + 3) ≤ 2 ^ 42)
+products c =
+    let at = c .before .before .before .before .before .before in
+    let lower = lower-right (c .before .before .before) in
+    let is-c = lower .1 ∙ right-node (k at) (s at) (j at) (le-of-lt (below at)) (lower .0) in
+    let first = product-most (k at) (c .before .before .before .before .before .judged-word .result .0) (omega (arith, is-c, cut-node-most (k at) (t at))) in
+    let few : 3 * k at + 6 ≤ 42 = omega (arith, start at .pre .high) in
+    (omega (arith, first, pow-mono few), omega (arith, first, pow-mono few, mul-le-mul-right (2 ^ (k at + 3)) (falling c)))
+
 word-count-requires : tie.Need-word-count-requires
 word-count-requires c κs = search needs
 
@@ -177,34 +202,34 @@ returns-2 c =
 low-requires : tie.Need-low-requires
 low-requires c κs = search needs
 
+add-interpolated : tie.Need-add-interpolated
+add-interpolated c = omega (arith, start (c .before .before .before .before .before .before .before .before) .pre .high)
+
 interpolated-requires : tie.Need-interpolated-requires
 interpolated-requires c κs =
-    let right = c .before in
+    let right = c .before .before in
     let at = right .before .before .before .before .before .before in
-    let lower = lower-right (right .before .before .before) in
-    let upper = upper-right right in
-    let is-c = lower .1 ∙ right-node (k at) (s at) (j at) (le-of-lt (below at)) (lower .0) in
-    let is-d = upper .1 ∙ right-node (k at) (s at) (j at + 1) (omega (arith, below at)) (upper .0) in
-    let most = cut-node-most (k at) (t at) in
-    let falls = cut-node-falls (k at) (t at) in
+    let falls = falling right in
+    let most = products right in
     record {
-      high = start at .pre .high;
-      first = omega (arith, is-c, is-d, most, falls);
-      falls = omega (arith, is-c, is-d, falls);
-      inside = omega (arith, c .low .ensures, cut-fraction-below (k at) (t at));
+      small = omega (arith, start at .pre .high);
+      fits = omega (arith, most .0, most .1);
+      falls = omega (arith, falls);
+      inside = omega (arith, c .before .low .ensures, cut-fraction-below (k at) (t at));
     }
 
 returns-3 : tie.Need-returns-3
 returns-3 c =
-    let right = c .before .before in
+    let right = c .before .before .before in
+    let low = c .before .before .low in
     let node = right .before .before in
     let at = node .before .before .before .before in
     let lower = lower-right (node .before) in
     let upper = upper-right right in
     let is-r = c .interpolated .ensures
-    ∙ ap (λ (x : ℕ). chopped (k at) (productSum (k at) x (node .judged-node .result .0) (c .before .low .result))) (lower .1)
-    ∙ ap (λ (x : ℕ). chopped (k at) (productSum (k at) (nodeOf (k at) (s at) (j at)) x (c .before .low .result))) (upper .1)
-    ∙ ap (λ (x : ℕ). chopped (k at) (productSum (k at) (nodeOf (k at) (s at) (j at)) (nodeOf (k at) (s at) (j at + 1)) x)) (c .before .low .ensures) in
+    ∙ ap (λ (x : ℕ). chopped (k at) (productSum (k at) x (node .judged-node .result .0) (low .result))) (lower .1)
+    ∙ ap (λ (x : ℕ). chopped (k at) (productSum (k at) (nodeOf (k at) (s at) (j at)) x (low .result))) (upper .1)
+    ∙ ap (λ (x : ℕ). chopped (k at) (productSum (k at) (nodeOf (k at) (s at) (j at)) (nodeOf (k at) (s at) (j at + 1)) x)) (low .ensures) in
     ap (λ (x : ℕ). reciprocalGiven (served x)) is-r
     ∙ ap reciprocalGiven (sym (none-wrong (k at) (s at) (t at) (lower .0) (upper .0)))
 
@@ -230,5 +255,6 @@ of-cut-spec =
     add-t19
     returns-2
     low-requires
+    add-interpolated
     interpolated-requires
     returns-3)
