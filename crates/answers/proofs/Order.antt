@@ -9,6 +9,14 @@ use lib.Dec.{T, eqb, eqb→eq, eqb-refl, T-not}
 use Rattle.bools.proofs.Bools.{both}
 use Rattle.answers.specs.Refusal.{Refusal, Outcome, outcome, turnedBack}
 
+-- a refusal that applies turns the call back
+pub applied : (r : Refusal) (rs : List Refusal) (v : ℕ) → r .applies ≡ true → outcome (r ∷ rs) v ≡ turnedBack r
+applied r rs v e = rw e
+
+-- and one that does not leaves it to those after it
+pub passed : (r : Refusal) (rs : List Refusal) (v : ℕ) → r .applies ≡ false → outcome (r ∷ rs) v ≡ outcome rs v
+passed r rs v e = rw e
+
 -- n is neither 0 nor the number of a refusal in the list
 abbrev pub avoids : ℕ → List Refusal → Bool
 avoids n [] = not (eqb n 0)

@@ -19,6 +19,7 @@ use Rattle.packing.specs.Packing.{wordAt}
 use Rattle.packing.proofs.Words.{word-lt}
 use Rattle.packing.proofs.Reading.{read-there}
 use Rattle.answers.specs.Refusal.{outcome, served}
+use Rattle.answers.proofs.Order.{applied, passed}
 use Rattle.image.specs.Image.{wordOf, nodeOf, isWrongWord, isWrong, judgedWord, judgedNode}
 use Rattle.image.specs.Refusals.{nodeRefusal, wordRefusal}
 use Rattle.image.proofs.Laws.{word-in-buffer}
@@ -109,10 +110,10 @@ module _ (k : ℕ) (s : List ℕ) (j : ℕ) (kept : ImageKept k s) where
 -- the two last refusals of reading a node, by where j lies and what its word is
 module _ (k : ℕ) (s : List ℕ) (j v : ℕ) where
   pub node-past : 2 ^ k < j → outcome (nodeRefusal k j ∷ wordRefusal k s j ∷ []) v ≡ record { number = 3; place = 0; value = 0 }
-  node-past h = rw (lt-ltb (2 ^ k) j h)
+  node-past h = applied (nodeRefusal k j) (wordRefusal k s j ∷ []) v (lt-ltb (2 ^ k) j h)
 
   pub node-refused : j ≤ 2 ^ k → wordRefusal k s j .applies ≡ true → outcome (nodeRefusal k j ∷ wordRefusal k s j ∷ []) v ≡ record { number = 6; place = j; value = 0 }
-  node-refused h e = rw (le-ltb (2 ^ k) j h, e)
+  node-refused h e = passed (nodeRefusal k j) (wordRefusal k s j ∷ []) v (le-ltb (2 ^ k) j h) ∙ applied (wordRefusal k s j) [] v e
 
   pub node-served : j ≤ 2 ^ k → wordRefusal k s j .applies ≡ false → outcome (nodeRefusal k j ∷ wordRefusal k s j ∷ []) v ≡ served v
-  node-served h e = rw (le-ltb (2 ^ k) j h, e)
+  node-served h e = passed (nodeRefusal k j) (wordRefusal k s j ∷ []) v (le-ltb (2 ^ k) j h) ∙ passed (wordRefusal k s j) [] v e

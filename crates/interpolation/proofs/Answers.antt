@@ -2,12 +2,13 @@
 -- Assumes nothing.
 use mathlib.Core.Path.{_≡_, ap, _∙_}
 use mathlib.Core.Bool.{true, false}
-use mathlib.Core.List.{List}
+use mathlib.Core.List.{List, [], _∷_}
 use Prim.Native.Nat.{ℕ, _+_, _^_, _<_}
 use native.Mathlib.Nat.{le-of-lt}
 use native.Mathlib.Omega.{arith}
 use Rattle.nodes.specs.Nodes.{node}
 use Rattle.answers.specs.Refusal.{served}
+use Rattle.answers.proofs.Order.{applied, passed}
 use Rattle.image.specs.Image.{nodeOf}
 use Rattle.image.specs.Refusals.{wordRefusal}
 use Rattle.image.proofs.Judging.{right-node}
@@ -18,17 +19,21 @@ use Rattle.interpolation.specs.Calls.{cutOutcome}
 module _ (k : ℕ) (s : List ℕ) (t : ℕ) where
   -- the word of node j is wrong
   pub first-wrong : wordRefusal k s (nodeNumber k t) .applies ≡ true → cutOutcome k s t ≡ record { number = 6; place = nodeNumber k t; value = 0 }
-  first-wrong e = rw e
+  first-wrong e = applied (wordRefusal k s (nodeNumber k t)) (wordRefusal k s (nodeNumber k t + 1) ∷ []) (readReciprocal k s t) e
 
   module _ (first : wordRefusal k s (nodeNumber k t) .applies ≡ false) where
     -- it is right, and that of node j + 1 is wrong
     pub next-wrong : wordRefusal k s (nodeNumber k t + 1) .applies ≡ true → cutOutcome k s t ≡ record { number = 6; place = nodeNumber k t + 1; value = 0 }
-    next-wrong e = rw (first, e)
+    next-wrong e =
+        passed (wordRefusal k s (nodeNumber k t)) (wordRefusal k s (nodeNumber k t + 1) ∷ []) (readReciprocal k s t) first
+        ∙ applied (wordRefusal k s (nodeNumber k t + 1)) [] (readReciprocal k s t) e
 
     module _ (next : wordRefusal k s (nodeNumber k t + 1) .applies ≡ false) where
       -- both are right
       pub none-wrong : cutOutcome k s t ≡ served (readReciprocal k s t)
-      none-wrong = rw (first, next)
+      none-wrong =
+          passed (wordRefusal k s (nodeNumber k t)) (wordRefusal k s (nodeNumber k t + 1) ∷ []) (readReciprocal k s t) first
+          ∙ passed (wordRefusal k s (nodeNumber k t + 1)) [] (readReciprocal k s t) next
 
       -- and what they give is R
       pub read-right : nodeNumber k t < 2 ^ k → readReciprocal k s t ≡ cutReciprocal k t
