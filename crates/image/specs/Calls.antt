@@ -5,7 +5,8 @@ use mathlib.Core.Bool.{Bool, cond, not, _||_}
 use mathlib.Core.List.{List, [], _∷_}
 use lib.Dec.{ltb, eqb}
 use lib.ListN.{length}
-use Rattle.precision.specs.Precision.{wordCount}
+use Rattle.precision.specs.Precision.{wordCount, wordWidth}
+use Rattle.packing.specs.Packing.{firstByte}
 use Rattle.answers.specs.Refusal.{Refusal, Outcome, outcome}
 use Rattle.image.specs.Image.{builtBuffer, nodeOf, wordPart}
 use Rattle.image.specs.Refusals.{isOutOfRange, isTooShort, precisionRefusal, bufferRefusal, nodeRefusal, imageRefusal, wordRefusal}
@@ -42,6 +43,14 @@ nodeOutcome k s j = outcome (nodeRefusals k s j) (nodeOf k s j)
 abbrev pub noImage : ℕ → List ℕ → Bool
 noImage k s = isOutOfRange k || isTooShort k (length s)
 
--- the bytes of the word of node j: an empty part where 1 or 2 applies or j is above 2^k - 1
+-- no bytes are shown: 1 or 2 applies or j is above 2^k - 1
+abbrev pub isHidden : ℕ → List ℕ → ℕ → Bool
+isHidden k s j = noImage k s || not (ltb j (wordCount k))
+
+-- the bytes of the word of node j, or an empty part
 abbrev pub shownPart : ℕ → List ℕ → ℕ → List ℕ
-shownPart k s j = cond (noImage k s || not (ltb j (wordCount k))) [] (wordPart k s j)
+shownPart k s j = cond (isHidden k s j) [] (wordPart k s j)
+
+-- the byte of the buffer at which that part stands; an empty part stands at the front
+abbrev pub shownFrom : ℕ → List ℕ → ℕ → ℕ
+shownFrom k s j = cond (isHidden k s j) 0 (firstByte (wordWidth k) j)

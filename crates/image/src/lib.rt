@@ -1,5 +1,5 @@
 // The image of a precision: what it is stands in specs/, and here are the limits that every call on an image tests first, and the
-// judging of a word where it stands.
+// judging of a word or a node where it stands.
 ghost use mathlib.Core.Path.{_≡_};
 ghost use Rattle.image.specs.Image.{judgedWord, judgedNode};
 ghost use Rattle.image.specs.Refusals.{brokenLimit};

@@ -1,7 +1,8 @@
 // Reading an image: the value of one node, and the bytes that hold one word.
 ghost use mathlib.Core.Path.{_≡_};
+ghost use Prim.Native.Nat.{_+_};
 ghost use Rattle.answers.specs.Answer.{nodeRead};
-ghost use Rattle.image.specs.Calls.{nodeOutcome, shownPart};
+ghost use Rattle.image.specs.Calls.{nodeOutcome, shownPart, shownFrom};
 use answers::NodeRead;
 use precision::Precision;
 use units::TableUnits;
@@ -42,9 +43,12 @@ pub fn node(k: Precision, image: &[u8], j: u32) -> NodeRead
     }
 }
 
-// The bytes of the image that hold the word of node j, or an empty part. The word is not judged.
+// The bytes of the image that hold the word of node j, or an empty part. The word is not judged. The promise has the bytes, and where in the
+// caller's image they stand: its memory, and the first byte's place in it.
 pub fn word_bytes(k: Precision, image: &[u8], j: u32) -> &[u8]
     ensures { λ r. ⌜ now r ≡ shownPart (k .0) (now (image .entry)) j ⌝ }
+    ensures { λ r. ⌜ r .ptr .0 ≡ image .entry .ptr .0 ⌝ }
+    ensures { λ r. ⌜ r .ptr .1 ≡ shownFrom (k .0) (now (image .entry)) j + image .entry .ptr .1 ⌝ }
 {
     let number = image::broken_limit(k, image.len());
     if number != 0 {

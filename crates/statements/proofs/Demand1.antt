@@ -3,7 +3,7 @@
 --
 -- For each call: its number is r exactly when refusal r applies and no earlier one does, and 0 exactly when none does; a call that is
 -- turned back has the value 0, and place 0 but under 6; a served one has place 0. Nothing is assumed of k, of the buffer s, of j, n or X, but
--- for the bytes of a word that is shown. Only the builder is lent a buffer that it can write to: the others leave every byte by their types.
+-- for the bytes of a word that is shown. Of these calls only the builder is lent a buffer that it can write to: the others leave every byte by their types.
 use mathlib.Core.Path.{_≡_, refl, _∙_}
 use mathlib.Core.Logic.{_↔_, _⊎_}
 use mathlib.Core.List.{List, [], _∷_}
@@ -17,7 +17,7 @@ use Rattle.nodes.specs.Nodes.{node}
 use Rattle.answers.proofs.Order.{isOneOf, listed, avoided, first, later, placed, value-of-0, refused-value, served-value}
 use Rattle.image.specs.Image.{nodeOf}
 use Rattle.image.specs.Refusals.{nodeRefusal, imageRefusal, wordRefusal}
-use Rattle.image.specs.Calls.{buildRefusals, buildOutcome, buildLeaves, checkRefusals, checkOutcome, nodeRefusals, nodeOutcome, shownPart}
+use Rattle.image.specs.Calls.{buildRefusals, buildOutcome, buildLeaves, checkRefusals, checkOutcome, nodeRefusals, nodeOutcome, shownPart, shownFrom}
 use Rattle.operand.specs.Operand.{cutOperand}
 use Rattle.interpolation.specs.Algorithm.{nodeNumber}
 use Rattle.interpolation.specs.Reciprocal.{readReciprocal}
@@ -29,7 +29,7 @@ use Rattle.statements.proofs.Built.{left-as-found, built-rest, built-as
 use Rattle.statements.proofs.Nodes.{served-decodes}
 use Rattle.statements.proofs.Numbers.{alone, refuses-1, refuses-2, later-number, first-wrong, node-number-3, node-number-6, node-number-0, node-place}
 use Rattle.statements.proofs.Reciprocals
-use Rattle.statements.proofs.Parts.{shown-empty, shown-length, shown-bytes}
+use Rattle.statements.proofs.Parts.{shown-empty, shown-length, shown-from, shown-bytes}
 
 -- The builder.
 module _ (k : ℕ) (s : List ℕ) where
@@ -209,6 +209,9 @@ module _ (k : ℕ) (s : List ℕ) (j : ℕ) where
   -- and otherwise it runs from byte floor(j × w / 8) to byte floor((j × w + w - 1) / 8), both included, of the caller's image
   pub part-length : IsPrecision k → IsLongEnough k s → j < 2 ^ k → length (shownPart k s j) ≡ (j * (2 * k + 2) + (2 * k + 2) - 1) / 8 + 1 - j * (2 * k + 2) / 8
   part-length = shown-length k s j
+
+  pub part-from : IsPrecision k → IsLongEnough k s → j < 2 ^ k → shownFrom k s j ≡ j * (2 * k + 2) / 8
+  part-from = shown-from k s j
 
   pub part-bytes : IsPrecision k → IsLongEnough k s → j < 2 ^ k → (i : ℕ) → i < length (shownPart k s j) → getD (shownPart k s j) i 0 ≡ getD s (j * (2 * k + 2) / 8 + i) 0
   part-bytes = shown-bytes k s j

@@ -3,7 +3,7 @@
 --
 -- For the nodes, the image and the reciprocal. Each theorem assumes no more than ranges of its numbers: that k is a precision, that n is
 -- from 2k + 3 to 63, that X is normalised, that a buffer is long enough, that its elements are bytes; and, where two buffers are compared or a
--- wrong word is named, which of their words agree or are wrong.
+-- wrong word is named, which of their words or bytes agree or are wrong.
 use mathlib.Core.Path.{_≡_, refl}
 use mathlib.Core.Logic.{_↔_}
 use mathlib.Core.List.{List}

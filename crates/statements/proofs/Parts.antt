@@ -14,7 +14,7 @@ use Rattle.precision.specs.Precision.{wordCount, wordWidth}
 use Rattle.packing.specs.Packing.{firstByte, lastByte, spanBytes}
 use Rattle.packing.proofs.Words.{span-within, span-ordered}
 use Rattle.image.specs.Image.{wordPart}
-use Rattle.image.specs.Calls.{noImage, shownPart}
+use Rattle.image.specs.Calls.{noImage, shownPart, shownFrom}
 use Rattle.image.proofs.Laws.{byte-count}
 use Rattle.image.proofs.Limits.{limit-none, limit-image, limit-kept, image-limit}
 use Rattle.statements.specs.Terms.{IsPrecision, IsLongEnough}
@@ -23,6 +23,9 @@ use Rattle.statements.specs.Terms.{IsPrecision, IsLongEnough}
 module _ (k : ℕ) (s : List ℕ) (j : ℕ) where
   shown : IsPrecision k → IsLongEnough k s → j < 2 ^ k → shownPart k s j ≡ wordPart k s j
   shown p l h = rw (limit-image k s (limit-none k s (p .0) (p .1) l), lt-ltb j (2 ^ k) h)
+
+  pub shown-from : IsPrecision k → IsLongEnough k s → j < 2 ^ k → shownFrom k s j ≡ firstByte (wordWidth k) j
+  shown-from p l h = rw (limit-image k s (limit-none k s (p .0) (p .1) l), lt-ltb j (2 ^ k) h)
 
   -- its bytes lie within the buffer
   inside : IsPrecision k → IsLongEnough k s → j < 2 ^ k → lastByte (wordWidth k) j < length s

@@ -1,6 +1,6 @@
 -- `reading::word_bytes` meets its contract: an empty part on each refusal, and otherwise the bytes from the first to the last of word j.
 -- Assumes nothing.
-use mathlib.Core.Path.{_≡_, sym, _∙_, ap}
+use mathlib.Core.Path.{_≡_, refl, sym, _∙_, ap}
 use mathlib.Core.List.{List}
 use Prim.Native.Nat.{ℕ, _+_, _-_, _*_, _/_, _^_, _≤_, _<_}
 use native.Mathlib.Nat.{mul-le-mul}
@@ -66,7 +66,7 @@ returns c =
     let k = c .before .before .before .before .args .k .0 in
     let s = c .before .before .before .before .args .image .now in
     let h : brokenLimit k (length s) ≡ 0 → ⊥ = λ e. c .before .if1 .taken (c .before .before .broken-limit .ensures ∙ e) in
-    rw (limit-no-image k s h)
+    (rw (limit-no-image k s h), (refl, rw (limit-no-image k s h) (omega arith)))
 
 word-count-requires : tie.Need-word-count-requires
 word-count-requires c κs = search needs
@@ -80,7 +80,8 @@ returns-2 c =
     let k = at .before .before .before .args .k .0 in
     let s = at .before .before .before .args .image .now in
     let j = at .before .before .before .args .j in
-    rw (limit-image k s (limit at), le-ltb j (2 ^ k) (omega (arith, counted (c .before .before), c .before .if2 .taken)))
+    let past = le-ltb j (2 ^ k) (omega (arith, counted (c .before .before), c .before .if2 .taken)) in
+    (rw (limit-image k s (limit at), past), (refl, rw (limit-image k s (limit at), past) (omega arith)))
 
 word-width-requires : tie.Need-word-width-requires
 word-width-requires c κs = search needs
@@ -110,9 +111,15 @@ returns-3 c =
     let s = at .before .before .before .args .image .now in
     let j = at .before .before .before .args .j in
     let t = there (c .before) in
-    rw (limit-image k s (limit at), lt-ltb j (2 ^ k) (t .below))
-    (ap (λ (w : ℕ). take ((j * w + w + 7) / 8 - j * w / 8) (drop (j * w / 8) s)) (t .narrow)
-    ∙ ap (λ (n : ℕ). take n (drop (firstByte (wordWidth k) j) s)) (span k j))
+    let shown = lt-ltb j (2 ^ k) (t .below) in (
+      rw (limit-image k s (limit at), shown)
+          (ap (λ (w : ℕ). take ((j * w + w + 7) / 8 - j * w / 8) (drop (j * w / 8) s)) (t .narrow)
+          ∙ ap (λ (n : ℕ). take n (drop (firstByte (wordWidth k) j) s)) (span k j)),
+      (
+        refl,
+        rw (limit-image k s (limit at), shown) (ap (λ (w : ℕ). j * w / 8 + at .before .before .before .args .image .ptr .1) (t .narrow)),
+      ),
+    )
 
 pub word-bytes-spec : {M : Type 1} → statement M
 word-bytes-spec =
