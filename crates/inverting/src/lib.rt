@@ -10,7 +10,7 @@ use precision::Precision;
 use units::TableUnits;
 use units::Ulps;
 
-// R at the fraction f of a piece of width 2^piece between the nodes lower and upper, where 2^unit of P make an ulp.
+// R at the fraction f of a piece of width 2^piece between the nodes lower and upper; an ulp is 2^unit of what P counts.
 fn interpolated(lower: TableUnits, upper: TableUnits, f: u64, piece: u32, unit: u32) -> Ulps
     requires { ⌜ IsPiece (lower .0) (upper .0) f piece ⌝ }
     ensures { λ r. ⌜ r .0 ≡ sumOver (2 ^ piece) (lower .0) (upper .0) f / 2 ^ unit ⌝ }
