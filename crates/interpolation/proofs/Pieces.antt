@@ -4,6 +4,7 @@ use mathlib.Core.Path.{_≡_, ap, _∙_}
 use Prim.Native.Nat.{ℕ, _+_, _-_, _*_, _/_, _%_, _≤_, _<_}
 use native.Mathlib.Nat.{mod-lt, div-add-mod', le-div-iff-mul-le, div-lt-iff-lt-mul}
 use native.Mathlib.Omega.{arith}
+use lib.Arith.{digits-div, digits-mod}
 
 module _ (K F t : ℕ) (wide : 0 < F) (least : K * F ≤ t) (most : t < 2 * K * F) where
   -- i is from K up to 2 × K
@@ -28,3 +29,14 @@ module _ (K F t : ℕ) (wide : 0 < F) (least : K * F ≤ t) (most : t < 2 * K * 
   -- t = i × F + f
   pub parts : (K + (t / F - K)) * F + t % F ≡ t
   parts = ap (λ (i : ℕ). i * F + t % F) index-number ∙ div-add-mod' t F
+
+-- the last of q + 1 pieces of width F, at its last place
+module _ (q F t : ℕ) (wide : 0 < F) (last : t + 1 ≡ (q + 1) * F) where
+  end : t ≡ q * F + (F - 1)
+  end = omega (arith, last)
+
+  pub last-index : t / F ≡ q
+  last-index = ap (λ (x : ℕ). x / F) end ∙ digits-div q {m = F} {r = F - 1} (omega arith)
+
+  pub last-rest : t % F ≡ F - 1
+  last-rest = ap (λ (x : ℕ). x % F) end ∙ digits-mod q {m = F} {r = F - 1} (omega arith)

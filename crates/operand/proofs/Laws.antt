@@ -69,6 +69,17 @@ cut-normalised k n X enough l h =
     let one-more : 2 * k + 3 + 1 ≡ 2 * k + 4 = omega arith in
     rw one-more at (cut-range (2 * k + 3) n enough X l h)
 
+-- the greatest operand is cut to the greatest
+pub cut-greatest : (k n X : ℕ) → 2 * k + 3 ≤ n → X + 1 ≡ 2 ^ (n + 1) → cutOperand k n X + 1 ≡ 2 ^ (2 * k + 4)
+cut-greatest k n X enough last =
+    let rest : n + 1 ≡ (2 * k + 4) + (n - (2 * k + 3)) = omega arith in
+    let whole = last ∙ ap (λ (e : ℕ). 2 ^ e) rest ∙ pow-add 2 (2 * k + 4) (n - (2 * k + 3)) in
+    let S = 2 ^ (n - (2 * k + 3)) in
+    let q = 2 ^ (2 * k + 4) - 1 in
+    let more : q + 1 ≡ 2 ^ (2 * k + 4) = omega (arith, pow-pos (2 * k + 4)) in
+    let end : X ≡ q * S + (S - 1) = omega (arith, whole, ap (λ (x : ℕ). x * S) more, pow-pos (n - (2 * k + 3))) in
+    omega (arith, ap (λ (x : ℕ). x / S) end ∙ high q (n - (2 * k + 3)) (omega (arith, pow-pos (n - (2 * k + 3)))), more)
+
 -- m bits b written to the right of X
 module _ (m X b : ℕ) (h : b < 2 ^ m) where
   -- higher bits are those of X

@@ -1,5 +1,6 @@
 // Reading an image: the value of one node, and the bytes that hold one word.
 ghost use mathlib.Core.Path.{_≡_};
+ghost use mathlib.Core.List.{[]};
 ghost use Prim.Native.Nat.{_+_};
 ghost use Rattle.answers.specs.Answer.{nodeRead};
 ghost use Rattle.image.specs.Calls.{nodeOutcome, shownPart, shownFrom};
@@ -43,6 +44,15 @@ pub fn node(k: Precision, image: &[u8], j: u32) -> NodeRead
     }
 }
 
+// An empty part, at the front of the image.
+fn no_bytes(image: &[u8]) -> &[u8]
+    ensures { λ r. ⌜ now r ≡ [] ⌝ }
+    ensures { λ r. ⌜ r .ptr .0 ≡ image .entry .ptr .0 ⌝ }
+    ensures { λ r. ⌜ r .ptr .1 ≡ image .entry .ptr .1 ⌝ }
+{
+    &image[..0]
+}
+
 // The bytes of the image that hold the word of node j, or an empty part. The word is not judged. The promise has the bytes, and where in the
 // caller's image they stand: its memory, and the first byte's place in it.
 pub fn word_bytes(k: Precision, image: &[u8], j: u32) -> &[u8]
@@ -52,11 +62,11 @@ pub fn word_bytes(k: Precision, image: &[u8], j: u32) -> &[u8]
 {
     let number = image::broken_limit(k, image.len());
     if number != 0 {
-        return &image[..0];
+        return no_bytes(image);
     }
     let count = k.word_count();
     if count <= j {
-        return &image[..0];
+        return no_bytes(image);
     }
     let width = k.word_width();
     let bit = (j as u64) * width;

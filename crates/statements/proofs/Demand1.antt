@@ -2,8 +2,9 @@
 -- empty part), and every lent byte is left as found. Whatever breaks none is served."
 --
 -- For each call: its number is r exactly when refusal r applies and no earlier one does, and 0 exactly when none does; a call that is
--- turned back has the value 0, and place 0 but under 6; a served one has place 0. Nothing is assumed of k, of the buffer s, of j, n or X, but
--- for the bytes of a word that is shown. Of these calls only the builder is lent a buffer that it can write to: the others leave every byte by their types.
+-- turned back has the value 0, and place 0 but under 6; a served one has place 0. So where two refusals apply the earlier one gives the number:
+-- none of these equivalences asks that a later one does not. Nothing is assumed of k, of the buffer s, of j, n or X, but for the bytes of a word
+-- that is shown. Of these calls only the builder is lent a buffer that it can write to: the others leave every byte by their types.
 use mathlib.Core.Path.{_≡_, refl, _∙_}
 use mathlib.Core.Logic.{_↔_, _⊎_}
 use mathlib.Core.List.{List, [], _∷_}

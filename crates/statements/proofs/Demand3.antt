@@ -56,6 +56,14 @@ module _ (k n X : ℕ) (enough : 2 * k + 3 ≤ n) (least : 2 ^ n ≤ X) (below :
   pub reciprocal-to : reciprocal k n X ≤ 2 ^ (2 * k + 1)
   reciprocal-to = Reciprocals.reciprocal-most k n X enough (least, below)
 
+-- Both ends are reached: by the least operand and by the greatest.
+module _ (k n X : ℕ) (enough : 2 * k + 3 ≤ n) where
+  pub reciprocal-of-least : X ≡ 2 ^ n → reciprocal k n X ≡ 2 ^ (2 * k + 1)
+  reciprocal-of-least = Reciprocals.reciprocal-of-least k n X enough
+
+  pub reciprocal-of-greatest : X + 1 ≡ 2 ^ (n + 1) → reciprocal k n X ≡ 2 ^ (2 * k)
+  reciprocal-of-greatest = Reciprocals.reciprocal-of-greatest k n X enough
+
 -- The difference of two neighbouring nodes and f are each below 2^(k+3) (document 002, Lemma 1), at every node and at every t,
 pub node-difference : (k j : ℕ) → node k j - node k (j + 1) < 2 ^ (k + 3)
 node-difference = Sizes.step-small

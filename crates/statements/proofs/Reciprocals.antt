@@ -1,11 +1,13 @@
 -- The answer of the reciprocal: the limits of n and X in front of any list of refusals, the two words that are read, and the whole call.
 -- Assumes nothing.
-use mathlib.Core.Path.{_≡_, _∙_, ap}
+use mathlib.Core.Path.{_≡_, sym, _∙_, ap}
 use mathlib.Core.Logic.{_↔_, _⊎_, ⊎-elim}
 use mathlib.Core.Bool.{not}
 use mathlib.Core.List.{List, [], _∷_}
 use Prim.Native.Nat.{ℕ, _+_, _-_, _*_, _^_, _≤_, _<_}
-use native.Mathlib.Nat.{le-of-lt}
+use native.Mathlib.Nat.{le-of-lt, lt-of-mul-lt-mul-right}
+use native.Mathlib.Omega.{arith}
+use lib.Pow.{pow-add, pow-pos}
 use lib.Dec.{T, eqb}
 use lib.ListN.{length}
 use Rattle.answers.specs.Refusal.{Refusal, Outcome, outcome, served}
@@ -15,13 +17,14 @@ use Rattle.nodes.specs.Nodes.{node}
 use Rattle.image.specs.Refusals.{wordRefusal}
 use Rattle.operand.specs.Operand.{cutOperand}
 use Rattle.operand.specs.Refusals.{fractionRefusal, operandRefusal}
-use Rattle.operand.proofs.Laws.{cut-normalised}
+use Rattle.operand.proofs.Laws.{cut-normalised, cut-greatest}
 use Rattle.operand.proofs.Limits.{operand-passes, operand-none}
 use Rattle.interpolation.specs.Algorithm.{index, nodeNumber, fraction}
 use Rattle.interpolation.specs.Reciprocal.{readReciprocal, reciprocal}
 use Rattle.interpolation.specs.Calls.{cutRefusals, cutOutcome, reciprocalOutcome}
+use Rattle.interpolation.proofs.Bound.{reciprocal-low}
 use Rattle.interpolation.proofs.Answers.{first-wrong, next-wrong, none-wrong, read-right as gives-R}
-use Rattle.interpolation.proofs.Cut.{cut-index, cut-number-below, cut-node-falls, cut-fraction-below, difference-most, cut-reciprocal-least, cut-reciprocal-most}
+use Rattle.interpolation.proofs.Cut.{cut-index, cut-number-below, cut-node-falls, cut-fraction-below, difference-most, cut-reciprocal-least, cut-reciprocal-most, cut-reciprocal-last}
 use Rattle.statements.specs.Terms.{IsPrecision, IsLongEnough, IsRightAt, IsFractionCount, IsNormalised}
 use Rattle.statements.proofs.Iff.{joined, same, both, under, either, row3, row4, row5, row6, is-count, no-count, is-normalised, not-normalised, wrong-word, no-wrong-word, read-wrong, read-right}
 use Rattle.statements.proofs.Numbers.{alone, refuses-1, refuses-2, kept-answer, later-number}
@@ -94,6 +97,20 @@ module _ (k n X : ℕ) where
 
   pub reciprocal-most : 2 * k + 3 ≤ n → IsNormalised n X → reciprocal k n X ≤ 2 ^ (2 * k + 1)
   reciprocal-most e o = let r = cut-in-range e o in cut-reciprocal-most k (cutOperand k n X) (r .0) (r .1)
+
+  -- both ends are reached
+  pub reciprocal-of-greatest : 2 * k + 3 ≤ n → X + 1 ≡ 2 ^ (n + 1) → reciprocal k n X ≡ 2 ^ (2 * k)
+  reciprocal-of-greatest e last = cut-reciprocal-last k (cutOperand k n X) (cut-greatest k n X e last)
+
+  pub reciprocal-of-least : 2 * k + 3 ≤ n → X ≡ 2 ^ n → reciprocal k n X ≡ 2 ^ (2 * k + 1)
+  reciprocal-of-least e one =
+      let below : X < 2 ^ (n + 1) = omega (arith, one, pow-add 2 n 1, pow-pos n) in
+      let least : 2 ^ n ≤ X = omega (arith, one) in
+      let whole : 2 ^ (n + 2 * k + 1) ≡ 2 ^ (2 * k + 1) * X =
+      ap (λ (x : ℕ). 2 ^ x) {x = n + 2 * k + 1} {y = 2 * k + 1 + n} (omega arith) ∙ pow-add 2 (2 * k + 1) n ∙ ap (λ (x : ℕ). 2 ^ (2 * k + 1) * x) (sym one) in
+      let reached : 2 ^ (2 * k + 1) < reciprocal k n X + 1 =
+      lt-of-mul-lt-mul-right X (omega (arith, whole, reciprocal-low k n X e least below)) in
+      omega (arith, reached, reciprocal-most e (least, below))
 
   module _ (s : List ℕ) where
     abbrev v : ℕ

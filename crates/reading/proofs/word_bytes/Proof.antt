@@ -58,21 +58,21 @@ there c =
 broken-limit-requires : tie.Need-broken-limit-requires
 broken-limit-requires c κs = search needs
 
-slice-aggregate-result : tie.Need-slice-aggregate-result
-slice-aggregate-result c = search needs
+no-bytes-requires : tie.Need-no-bytes-requires
+no-bytes-requires c κs = search needs
 
 returns : tie.Need-returns
 returns c =
     let k = c .before .before .before .before .args .k .0 in
     let s = c .before .before .before .before .args .image .now in
-    let h : brokenLimit k (length s) ≡ 0 → ⊥ = λ e. c .before .if1 .taken (c .before .before .broken-limit .ensures ∙ e) in
-    (rw (limit-no-image k s h), (refl, rw (limit-no-image k s h) (omega arith)))
+    let hidden = limit-no-image k s (λ e. omega (arith, c .before .if1 .taken, c .before .before .broken-limit .ensures, e)) in
+    (rw hidden (c .no-bytes .ensures .0), (c .no-bytes .ensures .1 .0, rw hidden (omega (arith, c .no-bytes .ensures .1 .1))))
 
 word-count-requires : tie.Need-word-count-requires
 word-count-requires c κs = search needs
 
-slice-aggregate-result-2 : tie.Need-slice-aggregate-result-2
-slice-aggregate-result-2 c = search needs
+no-bytes-requires-2 : tie.Need-no-bytes-requires-2
+no-bytes-requires-2 c κs = search needs
 
 returns-2 : tie.Need-returns-2
 returns-2 c =
@@ -80,8 +80,10 @@ returns-2 c =
     let k = at .before .before .before .args .k .0 in
     let s = at .before .before .before .args .image .now in
     let j = at .before .before .before .args .j in
-    let past = le-ltb j (2 ^ k) (omega (arith, counted (c .before .before), c .before .if2 .taken)) in
-    (rw (limit-image k s (limit at), past), (refl, rw (limit-image k s (limit at), past) (omega arith)))
+    let past = le-ltb j (2 ^ k) (omega (arith, counted (c .before .before), c .before .if2 .taken)) in (
+      rw (limit-image k s (limit at), past) (c .no-bytes2 .ensures .0),
+      (c .no-bytes2 .ensures .1 .0, rw (limit-image k s (limit at), past) (omega (arith, c .no-bytes2 .ensures .1 .1))),
+    )
 
 word-width-requires : tie.Need-word-width-requires
 word-width-requires c κs = search needs
@@ -126,10 +128,10 @@ word-bytes-spec =
     tie.close
     (tie.spec
     broken-limit-requires
-    slice-aggregate-result
+    no-bytes-requires
     returns
     word-count-requires
-    slice-aggregate-result-2
+    no-bytes-requires-2
     returns-2
     word-width-requires
     mul-bit
