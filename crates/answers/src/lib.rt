@@ -3,6 +3,7 @@ use units::TableUnits;
 use units::Ulps;
 
 // The answer of the builder and of the check, whose value is always 0.
+#[repr(C)]
 pub struct Done {
     pub number: u32,
     pub place: u64,
@@ -10,6 +11,7 @@ pub struct Done {
 }
 
 // The answer of reading a node.
+#[repr(C)]
 pub struct NodeRead {
     pub number: u32,
     pub place: u64,
@@ -17,6 +19,7 @@ pub struct NodeRead {
 }
 
 // The answer of the reciprocal.
+#[repr(C)]
 pub struct ReciprocalGiven {
     pub number: u32,
     pub place: u64,

@@ -1,0 +1,67 @@
+// The library for C and Rust: its calls under one prefix, over plain numbers and lent bytes. Each has the promise of the call beneath it.
+ghost use mathlib.Core.Path.{_≡_};
+ghost use Rattle.answers.specs.Answer.{done, nodeRead, reciprocalGiven};
+ghost use Rattle.precision.specs.Precision.{lengthOr0};
+ghost use Rattle.image.specs.Calls.{buildOutcome, buildLeaves, checkOutcome, nodeOutcome};
+ghost use Rattle.interpolation.specs.Calls.{reciprocalOutcome};
+use answers::Done;
+use answers::NodeRead;
+use answers::ReciprocalGiven;
+use precision::Precision;
+
+// The bytes of the image of precision k, 0 where k is no precision.
+#[no_mangle]
+pub extern "C" fn yildegga_image_length(k: u32) -> usize
+    ensures { λ r. ⌜ r ≡ lengthOr0 k ⌝ }
+{
+    Precision(k).image_length()
+}
+
+// Writes the image of precision k at the front of the buffer.
+#[no_mangle]
+pub extern "C" fn yildegga_build(k: u32, image: &mut [u8]) -> Done
+    ensures { λ r. ⌜ r ≡ done (buildOutcome k (now (image .entry))) ⌝ }
+    ensures { λ r. ⌜ now (image .exit) ≡ buildLeaves k (now (image .entry)) ⌝ }
+{
+    building::build(Precision(k), image)
+}
+
+// Whether every word of the image is the construction's; the place of refusal 6 is the lowest node of a wrong word.
+#[no_mangle]
+pub extern "C" fn yildegga_check(k: u32, image: &[u8]) -> Done
+    ensures { λ r. ⌜ r ≡ done (checkOutcome k (now (image .entry))) ⌝ }
+{
+    checking::check(Precision(k), image)
+}
+
+// The value of node j.
+#[no_mangle]
+pub extern "C" fn yildegga_node(k: u32, image: &[u8], j: u32) -> NodeRead
+    ensures { λ r. ⌜ r ≡ nodeRead (nodeOutcome k (now (image .entry)) j) ⌝ }
+{
+    reading::node(Precision(k), image, j)
+}
+
+// The reciprocal of the operand x, which has n fraction bits.
+#[no_mangle]
+pub extern "C" fn yildegga_reciprocal(k: u32, image: &[u8], n: u32, x: u64) -> ReciprocalGiven
+    ensures { λ r. ⌜ r ≡ reciprocalGiven (reciprocalOutcome k (now (image .entry)) n x) ⌝ }
+{
+    inverting::reciprocal(Precision(k), image, n, x)
+}
+
+// The value of node j through a bound table.
+#[no_mangle]
+pub extern "C" fn yildegga_bound_node(k: u32, image: &[u8], j: u32) -> NodeRead
+    ensures { λ r. ⌜ r ≡ nodeRead (nodeOutcome k (now (image .entry)) j) ⌝ }
+{
+    binding::bound_node(Precision(k), image, j)
+}
+
+// The reciprocal of the operand x through a bound table.
+#[no_mangle]
+pub extern "C" fn yildegga_bound_reciprocal(k: u32, image: &[u8], n: u32, x: u64) -> ReciprocalGiven
+    ensures { λ r. ⌜ r ≡ reciprocalGiven (reciprocalOutcome k (now (image .entry)) n x) ⌝ }
+{
+    binding::bound_reciprocal(Precision(k), image, n, x)
+}
