@@ -40,18 +40,18 @@ module _ (k : ℕ) (s : List ℕ) (kept : ImageKept k s) where
       }
 
   module _ (j : ℕ) (h : j < 2 ^ k) where
-    -- a word that is there is read
-    is-read : (t : List ℕ) → imageLength k ≤ length t → wordRead (wordWidth k) t j ≡ wordAt (wordWidth k) t j
-    is-read t long = read-there (wordWidth k) t j (omega arith) (omega (arith, kept .high)) (word-in-buffer k (kept .low) t j long h)
-
-    -- it is the same, held and read
-    same-word : wordAt (wordWidth k) (imageFront k s) j ≡ wordAt (wordWidth k) s j
+    -- a word is the same, held and read
+    pub same-word : wordAt (wordWidth k) (imageFront k s) j ≡ wordAt (wordWidth k) s j
     same-word =
         ap (λ (t : List ℕ). wordAt (wordWidth k) t j) front-taken
         ∙ word-take (wordWidth k) (imageLength k) s j (omega arith) (omega (arith, front-length, word-in-buffer k (kept .low) (imageFront k s) j (front-kept .long) h))
 
+    small : wordWidth k ≤ 57
+    small = omega (arith, kept .high)
+
     same-read : wordRead (wordWidth k) (imageFront k s) j ≡ wordRead (wordWidth k) s j
-    same-read = is-read (imageFront k s) (front-kept .long) ∙ same-word ∙ sym (is-read s (kept .long))
+    same-read =
+        read-there (wordWidth k) (imageFront k s) j small ∙ same-word ∙ sym (read-there (wordWidth k) s j small)
 
     -- and so is what it is judged to be
     pub front-word : (M n lead : ℕ) → judgedWord (imageFront k s) (wordWidth k) M n lead j ≡ judgedWord s (wordWidth k) M n lead j
