@@ -1,5 +1,5 @@
-// The image of a precision: what it is stands in specs/, and here are the limits that every call on an image tests first, and the
-// judging of a word or a node where it stands.
+// The image of a precision: what it is stands in specs/, and here are the limits that every call on an image tests first, the image's own
+// bytes in a buffer, and the judging of a word or a node where it stands.
 ghost use mathlib.Core.Path.{_≡_};
 ghost use Prim.Native.Nat.{_≤_};
 ghost use Rattle.image.specs.Image.{judgedWord, judgedNode};

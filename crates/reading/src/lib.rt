@@ -45,23 +45,27 @@ pub fn node(k: Precision, image: &[u8], j: u32) -> NodeRead
     }
 }
 
+// An empty part, at the front of the image.
+fn no_bytes() -> Part
+    ensures { λ r. ⌜ r ≡ part 0 0 ⌝ }
+{
+    Part {
+        offset: 0,
+        count: 0,
+    }
+}
+
 // Where in the image the bytes stand that hold the word of node j; none, at the front, where there is no such word. The word is not judged.
 pub fn word_part(k: Precision, image: &[u8], j: u32) -> Part
     ensures { λ r. ⌜ r ≡ part (shownFrom (k .0) (now (image .entry)) j) (shownCount (k .0) (now (image .entry)) j) ⌝ }
 {
     let number = image::broken_limit(k, image.len());
     if number != 0 {
-        return Part {
-            offset: 0,
-            count: 0,
-        };
+        return no_bytes();
     }
     let count = k.word_count();
     if count <= j {
-        return Part {
-            offset: 0,
-            count: 0,
-        };
+        return no_bytes();
     }
     let width = k.word_width();
     let bit = (j as u64) * width;

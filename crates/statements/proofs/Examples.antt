@@ -3,7 +3,7 @@
 -- Assumes nothing.
 use mathlib.Core.Path.{refl}
 use Rattle.quotient.specs.Quotient.{roundedUp}
-use Rattle.packing.specs.Packing.{wordAt}
+use Rattle.packing.specs.Packing.{wordAt, fieldAt}
 use Rattle.image.specs.Lowest.{lowest}
 use Rattle.decimal.specs.Decimal.{digits, decimal}
 use Rattle.table_text.specs.TableText.{precisionOf, field, line, lines, header, tableOf, tableText}
@@ -15,7 +15,7 @@ _also_ : {A B : Type 0} → A → B → A × B
 a also b = (a, b)
 
 images-hold : Each ImageHolds imageExamples
-unfolding roundedUp wordAt lowest
+unfolding roundedUp wordAt fieldAt lowest
 images-hold =
     record { answered = refl; built = refl; read = refl; passes = refl }
     also record { answered = refl; built = refl; read = refl; passes = refl }
@@ -23,7 +23,7 @@ images-hold =
     also tt
 
 reciprocals-hold : Each ReciprocalHolds reciprocalExamples
-unfolding roundedUp wordAt
+unfolding roundedUp wordAt fieldAt
 reciprocals-hold =
     record { is-R = refl; given = refl; is-P = tt }
     also record { is-R = refl; given = refl; is-P = tt }

@@ -55,23 +55,29 @@ there c =
 broken-limit-requires : tie.Need-broken-limit-requires
 broken-limit-requires c κs = search needs
 
+no-bytes-requires : tie.Need-no-bytes-requires
+no-bytes-requires c κs = search needs
+
 returns : tie.Need-returns
 returns c =
-    let k = c .before .before .before .args .k .0 in
-    let s = c .before .before .before .args .image .now in
-    rw (limit-no-image k s (λ e. omega (arith, c .if1 .taken, c .before .broken-limit .ensures, e)))
+    let k = c .before .before .before .before .args .k .0 in
+    let s = c .before .before .before .before .args .image .now in
+    rw (limit-no-image k s (λ e. omega (arith, c .before .if1 .taken, c .before .before .broken-limit .ensures, e))) (c .no-bytes .ensures)
 
 word-count-requires : tie.Need-word-count-requires
 word-count-requires c κs = search needs
 
+no-bytes-requires-2 : tie.Need-no-bytes-requires-2
+no-bytes-requires-2 c κs = search needs
+
 returns-2 : tie.Need-returns-2
 returns-2 c =
-    let at = c .before .before in
+    let at = c .before .before .before in
     let k = at .before .before .before .args .k .0 in
     let s = at .before .before .before .args .image .now in
     let j = at .before .before .before .args .j in
-    let past = le-ltb j (2 ^ k) (omega (arith, counted (c .before), c .if2 .taken)) in
-    rw (limit-image k s (limit at), past)
+    let past = le-ltb j (2 ^ k) (omega (arith, counted (c .before .before), c .before .if2 .taken)) in
+    rw (limit-image k s (limit at), past) (c .no-bytes2 .ensures)
 
 word-width-requires : tie.Need-word-width-requires
 word-width-requires c κs = search needs
@@ -103,8 +109,10 @@ word-part-spec =
     tie.close
     (tie.spec
     broken-limit-requires
+    no-bytes-requires
     returns
     word-count-requires
+    no-bytes-requires-2
     returns-2
     word-width-requires
     mul-bit
