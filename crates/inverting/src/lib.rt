@@ -1,11 +1,11 @@
 // The reciprocal of an operand by an image.
 ghost use mathlib.Core.Path.{_≡_};
-ghost use Prim.Native.Nat.{_/_, _^_, _≤_, _<_};
+ghost use Prim.Native.Nat.{_/_, _^_};
 ghost use Rattle.answers.specs.Answer.{reciprocalGiven};
 ghost use Rattle.interpolation.specs.Algorithm.{sumOver};
 ghost use Rattle.interpolation.specs.Calls.{cutOutcome, reciprocalOutcome};
 ghost use Rattle.inverting.specs.Cut.{IsCut, IsPiece};
-ghost use Rattle.inverting.specs.Code.{refusalCode, decoded};
+ghost use Rattle.inverting.specs.Piece.{IsPieceOf, bothIn, endsOutcome, carried};
 use answers::ReciprocalGiven;
 use precision::Precision;
 use units::TableUnits;
@@ -20,59 +20,63 @@ fn interpolated(lower: TableUnits, upper: TableUnits, f: u64, piece: u32, unit: 
     Ulps(bits::high(sum, unit))
 }
 
-// A refusal in one number: its number, and 32 bits for its place.
-fn refused(number: u32, place: u32) -> u64
-    ensures { λ r. ⌜ r ≡ refusalCode number place ⌝ }
+// The reciprocal of a cut operand t by the words at both ends of its piece, which stand at the top of the window: they are judged, the lower
+// one first. The precision comes and the answer goes as a plain number, which a register carries.
+fn between(precision: u32, j: u32, window: u64, t: u64) -> u64
+    requires { ⌜ IsPieceOf precision j t ⌝ }
+    ensures { λ r. ⌜ carried r ≡ endsOutcome precision (bothIn precision window) t ⌝ }
 {
-    (number as u64) * 4294967296 + place as u64
-}
-
-// The reciprocal of a cut operand t, where k and the image keep their limits, as one number. The words at both ends of its piece are had in one
-// reading and judged, the lower one first; behind the last word zero bits are read, which are judged to be the last node.
-fn of_cut(k: Precision, image: &[u8], t: u64) -> u64
-    requires { ⌜ IsCut (k .0) (now image) t ⌝ }
-    ensures { λ r. ⌜ decoded r ≡ cutOutcome (k .0) (now (image .entry)) t ⌝ }
-{
-    let words = image::front(k, image);
+    let k = Precision(precision);
     let count = k.word_count();
     let width = k.word_width() as u32;
     let numerator = nodes::numerator(k);
     let lead = nodes::lead(k);
-    let piece = k.0 + 3;
-    let j = bits::high(t, piece) as u32 - count;
-    let both = packing::field(words, (j as u64) * (width as u64), 2 * width);
+    let both = bits::high(window, 64 - 2 * width);
     let lower = nodes::judge(numerator, count, lead, j, bits::high(both, width) as u32);
     if lower.0 == 0 {
-        return refused(6, j);
+        return 4294967296 + j as u64;
     }
     let upper = nodes::judge(numerator, count, lead, j + 1, bits::low(both, width) as u32);
     if upper.0 == 0 {
-        return refused(6, j + 1);
+        return 4294967297 + j as u64;
     }
-    let f = bits::low(t, piece);
-    interpolated(lower, upper, f, piece, k.0 + 5).0
+    let piece = precision + 3;
+    interpolated(lower, upper, bits::low(t, piece), piece, precision + 5).0
 }
 
-// The answer as one number, which a register carries: R where it is given, and a refusal above all of these where it is not.
-fn coded(k: Precision, image: &[u8], n: u32, x: u64) -> u64
-    ensures { λ r. ⌜ decoded r ≡ reciprocalOutcome (k .0) (now (image .entry)) n x ⌝ }
+// The same, for each precision by code of its own, in which the compiler has constants to shift by.
+fn by_precision(precision: u32, j: u32, window: u64, t: u64) -> u64
+    requires { ⌜ IsPieceOf precision j t ⌝ }
+    ensures { λ r. ⌜ carried r ≡ endsOutcome precision (bothIn precision window) t ⌝ }
 {
-    let limit = image::broken_limit(k, image.len());
-    if limit != 0 {
-        return refused(limit, 0);
+    match precision {
+        1 => between(1, j, window, t),
+        2 => between(2, j, window, t),
+        3 => between(3, j, window, t),
+        4 => between(4, j, window, t),
+        5 => between(5, j, window, t),
+        6 => between(6, j, window, t),
+        7 => between(7, j, window, t),
+        8 => between(8, j, window, t),
+        9 => between(9, j, window, t),
+        10 => between(10, j, window, t),
+        11 => between(11, j, window, t),
+        12 => between(12, j, window, t),
+        _ => between(precision, j, window, t),
     }
-    let number = operand::broken_limit(k, n, x);
-    if number != 0 {
-        return refused(number, 0);
-    }
-    of_cut(k, image, operand::cut(k, n, x))
 }
 
-// The reciprocal of the operand x, which has n fraction bits.
-pub fn reciprocal(k: Precision, image: &[u8], n: u32, x: u64) -> ReciprocalGiven
-    ensures { λ r. ⌜ r ≡ reciprocalGiven (reciprocalOutcome (k .0) (now (image .entry)) n x) ⌝ }
+// The reciprocal of a cut operand t, where k and the image keep their limits. The words at both ends of its piece are had in one reading; behind
+// the last word zero bits are read, which are judged to be the last node.
+fn of_cut(k: Precision, image: &[u8], t: u64) -> ReciprocalGiven
+    requires { ⌜ IsCut (k .0) (now image) t ⌝ }
+    ensures { λ r. ⌜ r ≡ reciprocalGiven (cutOutcome (k .0) (now (image .entry)) t) ⌝ }
 {
-    let code = coded(k, image, n, x);
+    let words = image::front(k, image);
+    let width = k.word_width();
+    let j = bits::high(t, k.0 + 3) as u32 - k.word_count();
+    let window = packing::window(words, (j as u64) * width);
+    let code = by_precision(k.0, j, window, t);
     if code < 4294967296 {
         return ReciprocalGiven {
             number: 0,
@@ -81,8 +85,31 @@ pub fn reciprocal(k: Precision, image: &[u8], n: u32, x: u64) -> ReciprocalGiven
         };
     }
     ReciprocalGiven {
-        number: (code / 4294967296) as u32,
-        place: code % 4294967296,
+        number: 6,
+        place: code - 4294967296,
         value: Ulps(0),
     }
+}
+
+// The reciprocal of the operand x, which has n fraction bits.
+pub fn reciprocal(k: Precision, image: &[u8], n: u32, x: u64) -> ReciprocalGiven
+    ensures { λ r. ⌜ r ≡ reciprocalGiven (reciprocalOutcome (k .0) (now (image .entry)) n x) ⌝ }
+{
+    let limit = image::broken_limit(k, image.len());
+    if limit != 0 {
+        return ReciprocalGiven {
+            number: limit,
+            place: 0,
+            value: Ulps(0),
+        };
+    }
+    let number = operand::broken_limit(k, n, x);
+    if number != 0 {
+        return ReciprocalGiven {
+            number,
+            place: 0,
+            value: Ulps(0),
+        };
+    }
+    of_cut(k, image, operand::cut(k, n, x))
 }

@@ -2,16 +2,27 @@
 -- 2 × H × K. At K = 2^k and H = 2^(2k+a) they are the laws of a table with a guard bits.
 -- Assumes nothing.
 use mathlib.Core.Path.{_≡_, refl, sym, ap, _∙_}
-use mathlib.Core.Bool.{Bool, true, false, cond, not}
+use mathlib.Core.Bool.{Bool, true, false, cond, not, _&&_}
 use Prim.Native.Nat.{ℕ, zero, suc, _+_, _-_, _*_, _%_, _^_, _≤_, _<_}
 use native.Mathlib.Nat.{le-refl, zero-lt-suc, not-suc-le-zero, add-assoc, mul-le-mul, mul-le-mul-left, mul-le-mul-right, mod-eq-of-lt, mod-eq-sub-mod, mul-mod-left, add-mod-left, lt-of-not-le}
 use native.Mathlib.Omega.{arith}
-use lib.Dec.{eqb}
+use lib.Dec.{eqb, ltb}
 use borrow.Author.Tests.{eq-eqb, ne-eqb, eqb-true, lt-ltb, le-leb}
 use Rattle.bools.proofs.Bools.{same}
 use Rattle.quotient.specs.Quotient.{roundedUp, roundsUp}
 use Rattle.quotient.proofs.Laws.{reaches, passes-less, unique, rounds-up}
 use Rattle.nodes.specs.Nodes.{decodeUnder, judged}
+
+-- a word that is not judged 0 stands for the quotient
+pub judged-is : (M first lead j word : ℕ) → 0 < first + j → (judged M first lead j word ≡ 0 → ⊥) → judged M first lead j word ≡ roundedUp M (first + j)
+judged-is M first lead j word some = by (ltb (decodeUnder lead j word) (2 ^ 32)) (ltb (first + j) (2 ^ 32)) (roundsUp M (first + j) (decodeUnder lead j word)) refl
+  where
+    by : (a b r : Bool) → roundsUp M (first + j) (decodeUnder lead j word) ≡ r
+        → (cond (a && b && r) (decodeUnder lead j word) 0 ≡ 0 → ⊥) → cond (a && b && r) (decodeUnder lead j word) 0 ≡ roundedUp M (first + j)
+    by true true true e f = eqb-true (decodeUnder lead j word) (roundedUp M (first + j)) (sym (rounds-up M (first + j) some (decodeUnder lead j word)) ∙ e)
+    by true true false e f = absurd (f refl)
+    by true false r e f = absurd (f refl)
+    by false b r e f = absurd (f refl)
 
 -- what is asked of H and K
 pub record Shape (H K : ℕ) : Type 0 where

@@ -1,16 +1,17 @@
 -- Laws of `toBytes` and `bytesValue`: a number as bytes and back.
 -- Assumes nothing.
-use Prim.Native.Nat.{ℕ, zero, suc, _+_, _*_, _/_, _%_, _^_, _≤_, _<_}
-use mathlib.Core.Path.{_≡_, refl, sym, ap, ap₂, _∙_}
+use Prim.Native.Nat.{ℕ, zero, suc, _+_, _-_, _*_, _/_, _%_, _^_, _≤_, _<_}
+use mathlib.Core.Path.{_≡_, refl, sym, ap, ap₂, _∙_, subst}
 use mathlib.Core.List.{List, [], _∷_, _++_, append-assoc}
 use native.Mathlib.Nat.{add-zero, le-trans, le-suc, zero-add, mul-comm, mul-suc, mod-eq-of-lt, mod-one}
 use native.Mathlib.Numerals.{add-one}
 use native.Mathlib.Omega.{arith}
 use lib.ListN.{getD, length, take, length-append}
 use lib.Seq.{take-suc, getD-at}
-use lib.Pow.{high, low, mod-pow-add}
+use lib.Arith.{digits-lt}
+use lib.Pow.{pow-add, high, low, mod-pow-add}
 use Rattle.packing.specs.Packing.{toBytes, bytesValue, Bytes}
-use Rattle.packing.proofs.Numbers.{packed-lt}
+use Rattle.packing.proofs.Numbers.{packed-lt, packed-add, packed-ext}
 
 -- as many bytes as asked for
 pub length-toBytes : (n v : ℕ) → length (toBytes n v) ≡ n
@@ -59,6 +60,32 @@ toBytes-value (suc n) s hs h =
     ap₂ (λ (x y : ℕ). toBytes n x ++ (y ∷ [])) (high (bytesValue s 0 n) 8 (hs (0 + n))) (low (bytesValue s 0 n) 8 (hs (0 + n)))
     ∙ ap₂ (λ (x : List ℕ) (y : ℕ). x ++ (y ∷ [])) (toBytes-value n s hs (le-trans (le-suc n) h)) (ap (λ (i : ℕ). getD s i 0) (zero-add n))
     ∙ sym (take-suc s n 0 h)
+
+-- bytes, then bytes: the number of both is that of the first, moved up, and that of the second
+pub value-add : (s : List ℕ) (a m n : ℕ) → bytesValue s a (m + n) ≡ bytesValue s a m * 2 ^ (n * 8) + bytesValue s (a + m) n
+value-add s a m n =
+    packed-add 8 (λ (i : ℕ). getD s (a + i) 0) m n
+    ∙ ap (λ (x : ℕ). bytesValue s a m * 2 ^ (n * 8) + x)
+    (packed-ext 8 (λ (i : ℕ). getD s (a + (m + i)) 0) (λ (i : ℕ). getD s (a + m + i) 0) n (λ i l. ap (λ (x : ℕ). getD s x 0) (omega arith)))
+
+-- the next byte goes to the end of the number
+pub value-step : (s : List ℕ) (a e : ℕ) → a ≤ e → bytesValue s a (e + 1 - a) ≡ bytesValue s a (e - a) * 256 + getD s e 0
+value-step s a e h =
+    ap (bytesValue s a) more ∙ ap (λ (x : ℕ). bytesValue s a (e - a) * 256 + getD s x 0) there
+  where
+    more : e + 1 - a ≡ suc (e - a)
+    more = omega arith
+
+    there : a + (e - a) ≡ e
+    there = omega arith
+
+-- and gives it 8 bits more
+pub value-step-lt : (v b a e : ℕ) → a ≤ e → v < 2 ^ (8 * (e - a)) → b < 256 → v * 256 + b < 2 ^ (8 * (e + 1 - a))
+value-step-lt v b a e h hv hb =
+    subst (λ (x : ℕ). v * 256 + b < x) (sym (pow-add 2 (8 * (e - a)) 8) ∙ ap (λ (x : ℕ). 2 ^ x) more) (digits-lt hv hb)
+  where
+    more : 8 * (e - a) + 8 ≡ 8 * (e + 1 - a)
+    more = omega arith
 
 -- eight bytes at once
 spread : (a b c d e f g h : ℕ)

@@ -3,11 +3,12 @@
 use Prim.Native.Nat.{ℕ, zero, suc, _+_, _-_, _*_, _/_, _%_, _^_, _≤_, _<_}
 use mathlib.Core.Path.{_≡_, sym, ap, ap₂, _∙_, subst}
 use mathlib.Core.List.{List}
-use native.Mathlib.Nat.{zero-add, zero-div, mod-eq-of-lt, mul-comm, mul-add-div-right, mul-add-mod-self-right, mod-lt, mod-one, div-eq-of-lt, mul-div-mul-right}
+use native.Mathlib.Nat.{add-zero, zero-add, zero-div, zero-mul, mul-assoc, mod-eq-of-lt, mul-comm, mul-add-div-right, mul-add-mod-self-right, mod-lt, mod-one, div-eq-of-lt, mul-div-mul-right}
 use native.Mathlib.Omega.{arith}
 use lib.ListN.{getD, length, List·getD-eq-default}
 use lib.Pow.{pow-pos, pow-add, high, low, shr-shr, field, mod-pow-add}
-use Rattle.packing.specs.Packing.{bytesValue, Bytes, fieldAt}
+use Rattle.packing.specs.Packing.{bytesValue, Bytes, fieldAt, windowAt}
+use Rattle.packing.proofs.Bytes.{value-add}
 use Rattle.packing.proofs.Numbers.{packed-ext, packed-zero, packed-add, packed-front}
 
 -- bits from x + w on above do not reach the w bits from k on
@@ -137,15 +138,52 @@ module _ (s : List ℕ) (b w : ℕ) (hs : Bytes s) (one : 1 ≤ w) (wide : w ≤
       apart : 64 - w ≡ 64 - (o + w) + o
       apart = omega arith
 
-  moved : (bytesValue s (b / 8) 8 * 2 ^ (b % 8)) % 2 ^ 64 / 2 ^ (64 - w) ≡ fieldAt s b w
+  moved : windowAt s b / 2 ^ (64 - w) ≡ fieldAt s b w
   moved = down (bytesValue s (b / 8) 8) (b % 8) (omega arith) ∙ sym by-eight
 
-pub field-by-eight : (s : List ℕ) (b w : ℕ) → Bytes s → w ≤ 57 → (bytesValue s (b / 8) 8 * 2 ^ (b % 8)) % 2 ^ 64 / 2 ^ (64 - w) ≡ fieldAt s b w
+pub window-field : (s : List ℕ) (b w : ℕ) → Bytes s → w ≤ 57 → windowAt s b / 2 ^ (64 - w) ≡ fieldAt s b w
 unfolding fieldAt
-field-by-eight s b (suc w) hs wide = moved s b (suc w) hs (omega arith) wide
-field-by-eight s b zero hs wide =
+window-field s b (suc w) hs wide = moved s b (suc w) hs (omega arith) wide
+window-field s b zero hs wide =
     div-eq-of-lt (mod-lt (bytesValue s (b / 8) 8 * 2 ^ (b % 8)) (pow-pos 64))
     ∙ sym (mod-one (bytesValue s (b / 8) ((b + 0 - 1) / 8 + 1 - b / 8) / 2 ^ (8 * ((b + 0 - 1) / 8 + 1) - (b + 0))))
+
+-- a window near the end of the bytes: those that are there, and zeros behind them
+module _ (s : List ℕ) (b : ℕ) (below : b / 8 < length s) (near : length s < b / 8 + 8) where
+  abbrev there : ℕ
+  there = length s - b / 8
+
+  abbrev value : ℕ
+  value = bytesValue s (b / 8) (length s - b / 8)
+
+  none : bytesValue s (b / 8 + there) (8 - there) ≡ 0
+  none =
+      packed-ext 8 (λ (i : ℕ). getD s (b / 8 + there + i) 0) (λ (i : ℕ). 0) (8 - there) (λ i l. List·getD-eq-default s 0 (omega arith))
+      ∙ packed-zero 8 (8 - there)
+
+  all-eight : 8 ≡ there + (8 - there)
+  all-eight = omega arith
+
+  padded : bytesValue s (b / 8) 8 ≡ value * 2 ^ (8 * (8 - there))
+  padded =
+      ap (bytesValue s (b / 8)) all-eight
+      ∙ value-add s (b / 8) there (8 - there)
+      ∙ ap₂ (λ (x y : ℕ). value * 2 ^ x + y) (mul-comm (8 - there) 8) none
+      ∙ add-zero (value * 2 ^ (8 * (8 - there)))
+
+  pub window-near : (value * 2 ^ (8 * (8 - there) + b % 8)) % 2 ^ 64 ≡ windowAt s b
+  window-near =
+      ap (λ (x : ℕ). x % 2 ^ 64)
+      (ap (λ (x : ℕ). value * x) (pow-add 2 (8 * (8 - there)) (b % 8))
+      ∙ sym (mul-assoc value (2 ^ (8 * (8 - there))) (2 ^ (b % 8)))
+      ∙ ap (λ (x : ℕ). x * 2 ^ (b % 8)) (sym padded))
+
+-- and past it
+pub window-past : (s : List ℕ) (b : ℕ) → length s ≤ b / 8 → windowAt s b ≡ 0
+window-past s b h =
+    ap (λ (x : ℕ). (x * 2 ^ (b % 8)) % 2 ^ 64)
+    (packed-ext 8 (λ (i : ℕ). getD s (b / 8 + i) 0) (λ (i : ℕ). 0) 8 (λ i l. List·getD-eq-default s 0 (omega arith)) ∙ packed-zero 8 8)
+    ∙ ap (λ (x : ℕ). x % 2 ^ 64) (zero-mul (2 ^ (b % 8)))
 
 -- of two numbers side by side, each
 pub pair-high : (s : List ℕ) (b w : ℕ) → Bytes s → 1 ≤ w → fieldAt s b (2 * w) / 2 ^ w ≡ fieldAt s b w

@@ -56,6 +56,11 @@ bitsBehind w j = 8 * (lastByte w j + 1) - (j * w + w)
 unfoldable pub fieldAt : List ℕ → ℕ → ℕ → ℕ
 fieldAt s b w = bytesValue s (b / 8) ((b + w - 1) / 8 + 1 - b / 8) / 2 ^ (8 * ((b + w - 1) / 8 + 1) - (b + w)) % 2 ^ w
 
+-- the bits from bit b on at the top of 64 bits, of which there are 57 or more: eight bytes from the one that holds bit b, moved up past the bits
+-- before it
+abbrev pub windowAt : List ℕ → ℕ → ℕ
+windowAt s b = (bytesValue s (b / 8) 8 * 2 ^ (b % 8)) % 2 ^ 64
+
 -- the word at j: the w bits from bit j × w on
 unfoldable pub wordAt : ℕ → List ℕ → ℕ → ℕ
 wordAt w s j = fieldAt s (j * w) w

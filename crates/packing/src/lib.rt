@@ -1,8 +1,8 @@
 // Words of any width packed into bytes, and read back one at a time.
 ghost use mathlib.Core.Path.{_≡_};
-ghost use Prim.Native.Nat.{_+_, _^_, _≤_, _<_};
+ghost use Prim.Native.Nat.{_+_, _-_, _≤_, _<_};
 ghost use lib.ListN.{length, getD};
-ghost use Rattle.packing.specs.Packing.{bytesValue, fieldRead, wordRead, widest};
+ghost use Rattle.packing.specs.Packing.{bytesValue, windowAt, fieldRead, wordRead, widest};
 
 // The most bits that are read at once: with up to 7 bits before them they lie within 8 bytes.
 pub const WIDEST: u32 = 57;
@@ -13,16 +13,6 @@ fn byte(s: &[u8], at: usize) -> u64
     ensures { λ r. ⌜ (r ≡ getD (now (s .entry)) at 0) × (r < 256) ⌝ }
 {
     s[at] as u64
-}
-
-// A byte as a number, 0 past the end.
-fn byte_or_0(s: &[u8], at: usize) -> u64
-    ensures { λ r. ⌜ (r ≡ getD (now (s .entry)) at 0) × (r < 256) ⌝ }
-{
-    if at < s.len() {
-        return byte(s, at);
-    }
-    0
 }
 
 // Eight bytes as one number, most significant first. The compiler makes one reading of this where all of them are there: in pairs, since it
@@ -38,16 +28,34 @@ fn eight(s: &[u8], at: usize) -> u64
     (ab + cd) + (ef + gh)
 }
 
-// The same near the end of the bytes: those past it count as 0.
-fn eight_or_0(s: &[u8], at: usize) -> u64
-    requires { ⌜ at + 8 < 2 ^ 64 ⌝ }
-    ensures { λ r. ⌜ r ≡ bytesValue (now (s .entry)) at 8 ⌝ }
+// The number that the bytes from first up to past make, most significant first.
+fn gather(s: &[u8], first: usize, past: usize) -> u64
+    requires { ⌜ (first ≤ past) × (past ≤ length (now s)) × (past - first ≤ 8) ⌝ }
+    ensures { λ r. ⌜ r ≡ bytesValue (now (s .entry)) first (past - first) ⌝ }
 {
-    let ab = byte_or_0(s, at) * 72057594037927936 + byte_or_0(s, at + 1) * 281474976710656;
-    let cd = byte_or_0(s, at + 2) * 1099511627776 + byte_or_0(s, at + 3) * 4294967296;
-    let ef = byte_or_0(s, at + 4) * 16777216 + byte_or_0(s, at + 5) * 65536;
-    let gh = byte_or_0(s, at + 6) * 256 + byte_or_0(s, at + 7);
-    (ab + cd) + (ef + gh)
+    let mut value: u64 = 0;
+    let mut at = first;
+    while at < past {
+        value = value * 256 + s[at] as u64;
+        at += 1;
+    }
+    value
+}
+
+// The bits from bit `from` on, at the top of 64: 57 of them or more, and zeros below them. Bytes past the end count as 0.
+pub fn window(s: &[u8], from: u64) -> u64
+    ensures { λ r. ⌜ r ≡ windowAt (now (s .entry)) from ⌝ }
+{
+    let first = (from / 8) as usize;
+    let before = from % 8;
+    if first + 8 <= s.len() {
+        return eight(s, first) << before;
+    }
+    if s.len() <= first {
+        return 0;
+    }
+    let there = (s.len() - first) as u64;
+    gather(s, first, s.len()) << (8 * (8 - there) + before)
 }
 
 // The number that the `width` bits from bit `from` on make, 0 where they are more than WIDEST. Bytes past the end count as 0.
@@ -58,12 +66,7 @@ pub fn field(s: &[u8], from: u64, width: u32) -> u64
     if WIDEST < width {
         return 0;
     }
-    let first = (from / 8) as usize;
-    let before = from % 8;
-    if first + 8 <= s.len() {
-        return bits::high(eight(s, first) << before, 64 - width);
-    }
-    bits::high(eight_or_0(s, first) << before, 64 - width)
+    bits::high(window(s, from), 64 - width)
 }
 
 // The word at j of a list of words of `width` bits, 0 where the width is above WIDEST.

@@ -58,19 +58,3 @@ pub extern "C" fn yildegga_reciprocal(k: u32, image: &[u8], n: u32, x: u64) -> R
 {
     inverting::reciprocal(Precision(k), image, n, x)
 }
-
-// The value of node j through a bound table.
-#[no_mangle]
-pub extern "C" fn yildegga_bound_node(k: u32, image: &[u8], j: u32) -> NodeRead
-    ensures { λ r. ⌜ r ≡ nodeRead (nodeOutcome k (now (image .entry)) j) ⌝ }
-{
-    binding::bound_node(Precision(k), image, j)
-}
-
-// The reciprocal of the operand x through a bound table.
-#[no_mangle]
-pub extern "C" fn yildegga_bound_reciprocal(k: u32, image: &[u8], n: u32, x: u64) -> ReciprocalGiven
-    ensures { λ r. ⌜ r ≡ reciprocalGiven (reciprocalOutcome k (now (image .entry)) n x) ⌝ }
-{
-    binding::bound_reciprocal(Precision(k), image, n, x)
-}

@@ -1,5 +1,5 @@
 -- `packing::word` meets its contract: word j starts at bit j × width. Assumes nothing.
-use Prim.Native.Nat.{_-_, _*_, _^_, _≤_}
+use Prim.Native.Nat.{_-_, _^_, _≤_}
 use native.Mathlib.Nat.{mul-le-mul}
 use native.Mathlib.Omega.{arith}
 use borrow.Author.Needs.{needs}
