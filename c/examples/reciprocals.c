@@ -10,12 +10,12 @@
 static uint8_t image[YILDEGGA_LONGEST_IMAGE];
 static uint32_t k, n;
 
-/* Prints an operand and its reciprocal, in ulps and as a decimal number, which has at most 2k + 1 digits after its point. */
-static int reciprocal(const char *text, size_t length)
+/* Prints an operand and its reciprocal, in ulps and as a decimal fraction, for which 2k + 1 digits suffice. */
+static int reciprocal(unsigned long which, const char *text, size_t length)
 {
     uint64_t x;
     if (!number(text, length, UINT64_MAX, &x)) {
-        fprintf(stderr, "reciprocals: an operand is not a decimal number below 2^64\n");
+        fprintf(stderr, "reciprocals: operand %lu is not a decimal number below 2^64\n", which);
         return NOT_CALLED;
     }
     yildegga_reciprocal_given given = yildegga_reciprocal(k, image, sizeof image, n, x);
@@ -42,14 +42,15 @@ int main(int argc, char **argv)
     }
 
     int status = 0;
-    for (int at = 3; at < argc && status == 0; at++)
-        status = reciprocal(argv[at], strlen(argv[at]));
+    unsigned long which = 0;
+    for (char **operand = argv + 3; *operand && status == 0; operand++)
+        status = reciprocal(++which, *operand, strlen(*operand));
     if (argc == 3) {
         char *line = NULL;
         size_t room = 0;
         ssize_t length;
         while (status == 0 && (length = getline(&line, &room, stdin)) > 0)
-            status = reciprocal(line, (size_t)length - (line[length - 1] == '\n'));
+            status = reciprocal(++which, line, (size_t)length - (line[length - 1] == '\n'));
         free(line);
     }
     if (ferror(stdin) || fflush(stdout) != 0) {

@@ -49,7 +49,7 @@ extern "C" {
 
 /* The limits that depend on k, as constant expressions where k is constant. IMAGE_LENGTH(k), 2^k * (2k + 2) / 8 bytes, is 1, 3, 8,
    20, 48, 112, 256, 576, 1280, 2816, 6144 and 13312 at k = 1 to 12, and 0 elsewhere; the others are for these k alone. */
-#define YILDEGGA_IMAGE_LENGTH(k) ((k) < 1 || (k) > 12 ? 0u : (((k) + 1u) << (k)) / 4u)
+#define YILDEGGA_IMAGE_LENGTH(k) ((k) < 1 || (k) > 12 ? 0u : (((k) + 1u) << ((k) & 15u)) / 4u) /* & 15u: no shift too far */
 #define YILDEGGA_LAST_NODE(k) (1u << (k))
 #define YILDEGGA_WORD_BITS(k) (2u * (k) + 2u)
 #define YILDEGGA_LEAST_FRACTION_BITS(k) (2u * (k) + 3u)
