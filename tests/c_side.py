@@ -423,7 +423,8 @@ def mistakes():
         yield name, ["2", right, right], b"", 2, "usage: "
         yield name, ["2", room() / "none" / "mask"], b"", 2, f"{name}: {room()}/none/mask: No such file or directory"
         yield name, ["2", room()], b"", 2, f"{name}: {room()}: Is a directory"
-    yield "order_image", ["12", "/dev/full"], b"", 2, "order_image: /dev/full: No space left on device"
+    for k in "2", "12":  # the one is written at the end only, the other before it
+        yield "order_image", [k, "/dev/full"], b"", 2, "order_image: /dev/full: No space left on device"
     for k, length in (2, 0), (2, 2), (12, 13311):
         short = room() / f"short{length}"
         short.write_bytes(reference.image(k)[:length])

@@ -41,11 +41,11 @@ static void remember(void)
     memcpy(before, block, length + 2 * guard);
 }
 
-/* All bytes from lent byte `first` on, and the guard before them, are as they were. */
-static void see_kept(size_t first)
+/* After a call: all bytes from lent byte `first` on, and the guard before them, are as they were. */
+static void see_kept(const char *call, uint32_t k, size_t first)
 {
     if (memcmp(block, before, guard) != 0 || memcmp(lent + first, before + guard + first, length - first + guard) != 0) {
-        printf("the last call changed bytes\n");
+        fprintf(stderr, "%s at precision %" PRIu32 " with %zu bytes changed others\n", call, k, length);
         exit(4);
     }
 }
@@ -75,13 +75,12 @@ static void bytes(size_t offset, size_t count)
     printf("\n");
 }
 
-static void build(uint32_t k)
+static yildegga_done build(uint32_t k)
 {
-    printf("build ");
+    remember();
     yildegga_done answer = yildegga_build(k, lent, length);
-    see_kept(answer.number == YILDEGGA_SERVED ? yildegga_image_length(k) : 0);
-    done(answer);
-    bytes(0, length);
+    see_kept("build", k, answer.number == YILDEGGA_SERVED ? yildegga_image_length(k) : 0);
+    return answer;
 }
 
 static void check(uint32_t k)
@@ -89,19 +88,19 @@ static void check(uint32_t k)
     printf("check ");
     done(yildegga_check(k, lent, length));
     printf("\n");
-    see_kept(0);
+    see_kept("check", k, 0);
 }
 
 static void nodes(uint32_t k, uint32_t j)
 {
     printf("node %" PRIu32 " ", j);
     node(yildegga_node(k, lent, length, j));
-    see_kept(0);
+    see_kept("node", k, 0);
     printf("\nbound_node %" PRIu32 " ", j);
     node(yildegga_bound_node(k, lent, length, j));
-    see_kept(0);
+    see_kept("bound_node", k, 0);
     yildegga_part part = yildegga_word_bytes(k, lent, length, j);
-    see_kept(0);
+    see_kept("word_bytes", k, 0);
     printf("\nword_bytes %" PRIu32 " %zu %zu", j, part.offset, part.count);
     bytes(part.offset, part.count);
 }
@@ -110,10 +109,10 @@ static void reciprocals(uint32_t k, uint32_t n, uint64_t x)
 {
     printf("reciprocal %" PRIu32 " %" PRIu64 " ", n, x);
     given(yildegga_reciprocal(k, lent, length, n, x));
-    see_kept(0);
+    see_kept("reciprocal", k, 0);
     printf("bound_reciprocal %" PRIu32 " %" PRIu64 " ", n, x);
     given(yildegga_bound_reciprocal(k, lent, length, n, x));
-    see_kept(0);
+    see_kept("bound_reciprocal", k, 0);
 }
 
 /* ---- the cases */
@@ -140,7 +139,9 @@ static void calls_at(uint32_t k, size_t at)
         for (size_t which = 0; which < COUNT(xs); which++)
             reciprocals(k, ns[each], xs[which]);
     }
-    build(k);
+    printf("build ");
+    done(build(k));
+    bytes(0, length);
 }
 
 static void cases(uint32_t k)
@@ -156,7 +157,7 @@ static void cases(uint32_t k)
         for (size_t which = 0; which < (counts[each] < image || !image ? 1 : COUNT(damages)); which++) {
             printf("lent %" PRIu32 " %zu %zu %u\n", k, counts[each], damages[which].at, (unsigned)damages[which].mask);
             lend(counts[each]);
-            yildegga_build(k, lent, length);
+            build(k);
             if (damages[which].mask)
                 lent[damages[which].at] ^= damages[which].mask;
             calls_at(k, damages[which].at);
