@@ -13,8 +13,8 @@
  *   - Nothing else writes these bytes during a call, and nothing else reads them while yildegga_build writes them. The library
  *     keeps no state, so calls on other bytes, and calls that only read, may run at once in several threads.
  *   - The bytes do not overlap the object that takes the answer.
- *   - NULL is no lent buffer. NULL with length 0 is turned back as one that is too short, by refusal 1 or 2, and nothing is read
- *     or written through it: this is tested and seen in the machine code, and no proof speaks of it.
+ *   - NULL lends nothing. With length 0 it is turned back like any buffer that is too short, by refusal 1 or 2 (no bytes are shown),
+ *     and nothing is read or written through it, since every image has a byte: this is tested, and no proof speaks of it.
  *   - The archive holds code for x86-64 with the System V calling convention, the one of Linux.
  */
 #ifndef YILDEGGA_H

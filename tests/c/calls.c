@@ -44,7 +44,8 @@ static void remember(void)
 /* After a call: all bytes from lent byte `first` on, and the guard before them, are as they were. */
 static void see_kept(const char *call, uint32_t k, size_t first)
 {
-    if (memcmp(block, before, guard) != 0 || memcmp(lent + first, before + guard + first, length - first + guard) != 0) {
+    if (first > length || memcmp(block, before, guard) != 0 ||
+        memcmp(lent + first, before + guard + first, length - first + guard) != 0) {
         fprintf(stderr, "%s at precision %" PRIu32 " with %zu bytes changed others\n", call, k, length);
         exit(4);
     }
