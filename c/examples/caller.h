@@ -12,7 +12,7 @@
 #define NOT_CALLED 2  /* the arguments or a file did not allow it, or the output could not be written */
 
 /* Reads a number that is written in decimal digits alone, no sign and no space, and is at most `most`. */
-static inline bool number(const char *text, size_t length, uint64_t most, uint64_t *value)
+static inline bool read_number(const char *text, size_t length, uint64_t most, uint64_t *value)
 {
     uint64_t sum = 0;
     for (size_t at = 0; at < length; at++) {
@@ -27,18 +27,18 @@ static inline bool number(const char *text, size_t length, uint64_t most, uint64
     return length > 0 && sum <= most;
 }
 
-static inline bool number_of_32_bits(const char *text, size_t length, uint32_t *value)
+static inline bool read_number_32(const char *text, size_t length, uint32_t *value)
 {
     uint64_t wide;
-    if (!number(text, length, UINT32_MAX, &wide))
+    if (!read_number(text, length, UINT32_MAX, &wide))
         return false;
     *value = (uint32_t)wide;
     return true;
 }
 
-static inline const char *refusal(uint32_t number_of_it)
+static inline const char *refusal(uint32_t number)
 {
-    switch (number_of_it) {
+    switch (number) {
     case YILDEGGA_SERVED: return "served";
     case YILDEGGA_PRECISION: return "the precision is not from 1 to 12";
     case YILDEGGA_SHORT_BUFFER: return "there are fewer bytes than the image has";

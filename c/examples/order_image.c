@@ -9,7 +9,7 @@ int main(int argc, char **argv)
 {
     uint8_t image[YILDEGGA_LONGEST_IMAGE];
     uint32_t k;
-    if (argc != 3 || !number_of_32_bits(argv[1], strlen(argv[1]), &k)) {
+    if (argc != 3 || !read_number_32(argv[1], strlen(argv[1]), &k)) {
         fprintf(stderr, "usage: order_image PRECISION FILE\n");
         return NOT_CALLED;
     }

@@ -23,7 +23,7 @@ int main(int argc, char **argv)
 {
     uint8_t found[YILDEGGA_LONGEST_IMAGE + 1], right[YILDEGGA_LONGEST_IMAGE];
     uint32_t k;
-    if (argc != 3 || !number_of_32_bits(argv[1], strlen(argv[1]), &k)) {
+    if (argc != 3 || !read_number_32(argv[1], strlen(argv[1]), &k)) {
         fprintf(stderr, "usage: proofread PRECISION FILE\n");
         return NOT_CALLED;
     }
@@ -43,7 +43,7 @@ int main(int argc, char **argv)
     } else if (checked.number == YILDEGGA_WRONG_WORD) {
         uint32_t j = (uint32_t)checked.place;
         yildegga_part part = yildegga_word_bytes(k, found, length, j);
-        yildegga_build(k, right, sizeof right);
+        yildegga_build(k, right, sizeof right); /* served: k is a precision, and the longest image has room */
         printf("the word of node %" PRIu32 " is wrong: bytes %zu to %zu\n", j, part.offset, part.offset + part.count - 1);
         show("found     ", k, found, part, j);
         show("should be ", k, right, part, j);

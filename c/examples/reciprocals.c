@@ -14,7 +14,7 @@ static uint32_t k, n;
 static int reciprocal(unsigned long which, const char *text, size_t length)
 {
     uint64_t x;
-    if (!number(text, length, UINT64_MAX, &x)) {
+    if (!read_number(text, length, UINT64_MAX, &x)) {
         fprintf(stderr, "reciprocals: operand %lu is not a decimal number below 2^64\n", which);
         return NOT_CALLED;
     }
@@ -31,7 +31,7 @@ static int reciprocal(unsigned long which, const char *text, size_t length)
 
 int main(int argc, char **argv)
 {
-    if (argc < 3 || !number_of_32_bits(argv[1], strlen(argv[1]), &k) || !number_of_32_bits(argv[2], strlen(argv[2]), &n)) {
+    if (argc < 3 || !read_number_32(argv[1], strlen(argv[1]), &k) || !read_number_32(argv[2], strlen(argv[2]), &n)) {
         fprintf(stderr, "usage: reciprocals PRECISION FRACTION_BITS [OPERAND...]\n");
         return NOT_CALLED;
     }
