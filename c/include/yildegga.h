@@ -9,7 +9,7 @@
  * applies, in the order of their numbers, and with every lent byte left as it was. These promises are proved. What the proofs
  * cannot check is the caller's part:
  *   - `image` points to `length` bytes that belong to the caller, for writing in yildegga_build and for reading elsewhere. They
- *     may be longer than the image; bytes past it are neither read nor written.
+ *     may be more than the image has: those past it are never written, and no answer depends on them.
  *   - Nothing else writes these bytes during a call, and nothing else reads them while yildegga_build writes them. The library
  *     keeps no state, so calls on other bytes, and calls that only read, may run at once in several threads.
  *   - The bytes do not overlap the object that takes the answer.
