@@ -77,15 +77,16 @@ NUMBERS.update({f"bound_{call}": NUMBERS[call] for call in ("node", "reciprocal"
 
 
 @functools.cache
-def calls_program():
-    program = room() / "calls"
-    well("gcc", "-g", "-O1", "-std=c99", *C_WARNINGS, INCLUDE, "-o", program, HERE / "calls.c", archive())
+def built(name):
+    """The program tests/c/NAME.c."""
+    program = room() / name
+    well("gcc", "-g", "-O1", "-std=c99", *C_WARNINGS, INCLUDE, "-o", program, HERE / f"{name}.c", archive())
     return program
 
 
 @functools.cache
 def calls_printed():
-    return well(calls_program(), "64")
+    return well(built("calls"), "64")
 
 
 def lent(k, count, at, mask):
@@ -163,10 +164,17 @@ def lengths():
 
 def memory_checked():
     """Valgrind sees the archive's own code, which no sanitizer has gone through: each buffer is a heap block of just its length."""
-    done = run(need("valgrind", "valgrind"), "--quiet", "--leak-check=full", "--error-exitcode=9", calls_program(), "0")
+    done = run(need("valgrind", "valgrind"), "--quiet", "--leak-check=full", "--error-exitcode=9", built("calls"), "0")
     if done.returncode or done.stderr:
         return f"status {done.returncode}: {done.stderr.decode()[:400]}"
     return None if done.stdout.decode() == calls_printed() else "the answers are others than between guard bytes"
+
+
+def past_image():
+    """No byte past the image is read or written, where the buffer is longer."""
+    calls = 12 * 2 + 5 * sum(2 ** k for k in range(1, 13))
+    found = well(built("past_image"))
+    return None if found == f"{calls} of {calls}\n" else f"served were {found}"
 
 
 # ---- make
@@ -237,6 +245,7 @@ def tests():
     yield "c: the image lengths, by the call and by the header", lengths
     yield "c: every call around every limit, between guard bytes, by the reference", calls_compared
     yield "c: every call around every limit, under valgrind", memory_checked
+    yield "c: no call reads or writes past the image", past_image
     yield "c: make install, and pkg-config finds it", installed
     yield "c: make install with DESTDIR and LIBDIR, and make uninstall", installed_elsewhere
     yield "c: make clean, and make after it", clean
