@@ -1,0 +1,63 @@
+/* Uses every name of the header, in C and in C++, with all that a compiler warns of counting as an error. It ends with status 0
+   where the calls serve at precision 2 as document 01 has it. */
+#include <yildegga.h>
+
+static uint8_t image[YILDEGGA_IMAGE_LENGTH(2)];
+static const size_t lengths[] = {
+    YILDEGGA_IMAGE_LENGTH(0), YILDEGGA_IMAGE_LENGTH(1), YILDEGGA_IMAGE_LENGTH(YILDEGGA_GREATEST_PRECISION),
+    YILDEGGA_IMAGE_LENGTH(13), YILDEGGA_IMAGE_LENGTH(4294967295u)};
+static const size_t right_lengths[] = {0, 1, YILDEGGA_LONGEST_IMAGE, 0, 0};
+
+static int place_has_a_meaning(uint32_t number)
+{
+    switch (number) {
+    case YILDEGGA_SERVED:
+    case YILDEGGA_PRECISION:
+    case YILDEGGA_SHORT_BUFFER:
+    case YILDEGGA_NODE_NUMBER:
+    case YILDEGGA_FRACTION_BITS:
+    case YILDEGGA_NOT_NORMALISED:
+        return 0;
+    case YILDEGGA_WRONG_WORD:
+        return 1;
+    default:
+        return -1;
+    }
+}
+
+int main(void)
+{
+    const uint32_t k = 2;
+    const uint32_t n = YILDEGGA_LEAST_FRACTION_BITS(k);
+    for (size_t at = 0; at < sizeof lengths / sizeof lengths[0]; at++)
+        if (lengths[at] != right_lengths[at])
+            return 1;
+    if (yildegga_image_length(k) != sizeof image || YILDEGGA_LEAST_PRECISION > k || YILDEGGA_MOST_FRACTION_BITS < n)
+        return 2;
+
+    yildegga_done done = yildegga_build(k, image, sizeof image);
+    if (done.number != YILDEGGA_SERVED || done.place != 0 || done.value != 0)
+        return 3;
+    image[2] ^= 1;
+    done = yildegga_check(k, image, sizeof image);
+    if (place_has_a_meaning(done.number) != 1 || done.place != 3)
+        return 4;
+    image[2] ^= 1;
+
+    yildegga_node_read node = yildegga_node(k, image, sizeof image, YILDEGGA_LAST_NODE(k));
+    yildegga_node_read bound_node = yildegga_bound_node(k, image, sizeof image, 0);
+    yildegga_table_units units = node.value;
+    if (units.count != 64 || bound_node.value.count != 128)
+        return 5;
+
+    yildegga_part part = yildegga_word_bytes(k, image, sizeof image, 1);
+    if (part.offset != 0 || part.count != 2 || part.offset * 8 + YILDEGGA_WORD_BITS(k) != 6)
+        return 6;
+
+    yildegga_reciprocal_given given = yildegga_reciprocal(k, image, sizeof image, n, 135);
+    yildegga_reciprocal_given bound = yildegga_bound_reciprocal(k, image, sizeof image, n, 255);
+    yildegga_ulps ulps = given.value;
+    if (ulps.count * YILDEGGA_TABLE_UNITS_IN_ULP != 120 || bound.value.count != 16)
+        return 7;
+    return 0;
+}

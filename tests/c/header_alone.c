@@ -1,0 +1,2 @@
+/* The header asks for no other. */
+#include <yildegga.h>
