@@ -43,18 +43,18 @@ fn proofread() -> Result<ExitCode, Box<dyn Error>> {
         Err(refused) => return Err(refused.into()),
     };
     let j = u32::try_from(refused.place())?;
-    let bytes = yildegga::word_range(k, &image, j);
+    let at = yildegga::word_range(k, &image, j);
+    let found = hex(yildegga::word_bytes(k, &image, j));
     let mut right = image.clone();
     yildegga::build(k, &mut right)?;
+    let expected = hex(yildegga::word_bytes(k, &right, j));
     let node = yildegga::node(k, &right, j)?;
     writeln!(
         io::stdout(),
-        "wrong word at node {j}, bytes {} to {}: {}\nshould be {}: node {j} is {} table units",
-        bytes.start,
-        bytes.end - 1,
-        hex(&image[bytes.clone()]),
-        hex(&right[bytes]),
-        node.0,
+        "wrong word at node {j}, bytes {} to {}: {found}\nshould be {expected}: node {j} is {} table units",
+        at.start,
+        at.end - 1,
+        node.0
     )?;
     Ok(ExitCode::from(1))
 }

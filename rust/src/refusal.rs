@@ -11,7 +11,6 @@ use yildegga_sys::Answer;
 /// // The precision and the fraction bits both break a limit.
 /// let refused = yildegga::reciprocal(13, &[], 99, 0).unwrap_err();
 /// assert_eq!(refused.refusal(), Refusal::Precision);
-/// assert_eq!(refused.refusal().number(), 1);
 /// ```
 #[derive(Clone, Copy, Debug, PartialEq, Eq, PartialOrd, Ord, Hash)]
 #[repr(u32)]
@@ -32,6 +31,10 @@ pub enum Refusal {
 
 impl Refusal {
     /// The number of the refusal, 1 to 6.
+    ///
+    /// ```
+    /// assert_eq!(yildegga::Refusal::WrongWord.number(), 6);
+    /// ```
     #[inline]
     pub const fn number(self) -> u32 {
         self as u32
@@ -56,7 +59,6 @@ impl fmt::Display for Refusal {
 /// ```
 /// // The last bit of the image is wrong, and with it the word of node 3.
 /// let refused = yildegga::check(2, &[0x02, 0x75, 0x8B]).unwrap_err();
-/// assert_eq!((refused.number(), refused.place()), (6, 3));
 /// assert_eq!(refused.to_string(), "refusal 6 at node 3: the word is not the construction's");
 /// ```
 #[derive(Clone, Copy, Debug, PartialEq, Eq, Hash)]
@@ -67,18 +69,32 @@ pub struct Refused {
 
 impl Refused {
     /// Which refusal it is.
+    ///
+    /// ```
+    /// use yildegga::Refusal;
+    /// assert_eq!(yildegga::check(2, &[]).unwrap_err().refusal(), Refusal::ShortBuffer);
+    /// ```
     #[inline]
     pub const fn refusal(&self) -> Refusal {
         self.refusal
     }
 
     /// The number of the refusal, 1 to 6.
+    ///
+    /// ```
+    /// assert_eq!(yildegga::check(2, &[]).unwrap_err().number(), 2);
+    /// ```
     #[inline]
     pub const fn number(&self) -> u32 {
         self.refusal.number()
     }
 
-    /// The lowest node whose word was read and is wrong in refusal 6, 0 in the others.
+    /// In refusal 6 the lowest node whose word was read and is wrong, 0 in the others.
+    ///
+    /// ```
+    /// assert_eq!(yildegga::check(2, &[0x02, 0x75, 0x8B]).unwrap_err().place(), 3);
+    /// assert_eq!(yildegga::check(2, &[]).unwrap_err().place(), 0);
+    /// ```
     #[inline]
     pub const fn place(&self) -> u64 {
         self.place
