@@ -13,12 +13,13 @@ sys.dont_write_bytecode = True
 
 import programs  # noqa: E402
 import repository  # noqa: E402
+import rust_side  # noqa: E402
 
 
 def main():
     word = sys.argv[1] if len(sys.argv) > 1 else ""
     passed = failed = 0
-    for name, test in [*programs.tests(), *repository.tests()]:
+    for name, test in [*programs.tests(), *repository.tests(), *rust_side.tests()]:
         if word not in name:
             continue
         try:

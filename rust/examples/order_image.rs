@@ -1,4 +1,5 @@
-//! Orders an image: builds the one of precision K, writes it to FILE, and prints K and the bytes written.
+//! Orders an image: builds the one of precision K, writes it to FILE, and prints K and the bytes written. The exit status is 1 where
+//! the library turns the call back, and 2 where the arguments or the file do not allow it.
 //!
 //!     order_image K FILE
 #![forbid(unsafe_code)]
@@ -9,6 +10,8 @@ use std::fs;
 use std::io::{self, Write};
 use std::path::Path;
 use std::process::ExitCode;
+
+use yildegga::Refused;
 
 fn order() -> Result<(), Box<dyn Error>> {
     let words: Vec<_> = env::args_os().skip(1).collect();
@@ -30,7 +33,7 @@ fn main() -> ExitCode {
         Ok(()) => ExitCode::SUCCESS,
         Err(error) => {
             let _ = writeln!(io::stderr(), "order_image: {error}");
-            ExitCode::from(2)
+            ExitCode::from(if error.is::<Refused>() { 1 } else { 2 })
         }
     }
 }

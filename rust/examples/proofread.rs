@@ -1,5 +1,6 @@
-//! Reads a mask file back as an image of precision K: `right`, or its first wrong word, with the bytes that hold it and what they
-//! should be. The exit status is 0 where the image is right, 1 where it is wrong and 2 where it cannot be read.
+//! Reads a mask file back as an image of precision K, and prints `right`, or its first wrong word with the bytes that hold it and
+//! what they should be. The exit status is 1 where a word is wrong or the library turns the call back, and 2 where the arguments or
+//! the file do not allow it.
 //!
 //!     proofread K FILE
 #![forbid(unsafe_code)]
@@ -11,7 +12,7 @@ use std::io::{self, Read, Write};
 use std::path::Path;
 use std::process::ExitCode;
 
-use yildegga::{Refusal, LONGEST_IMAGE};
+use yildegga::{Refusal, Refused, LONGEST_IMAGE};
 
 /// Bytes in hex, with a space between.
 fn hex(bytes: &[u8]) -> String {
@@ -64,7 +65,7 @@ fn main() -> ExitCode {
         Ok(status) => status,
         Err(error) => {
             let _ = writeln!(io::stderr(), "proofread: {error}");
-            ExitCode::from(2)
+            ExitCode::from(if error.is::<Refused>() { 1 } else { 2 })
         }
     }
 }

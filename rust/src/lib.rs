@@ -26,7 +26,7 @@
 //! ```
 //!
 //! The calls are those of `libyildegga.a`, where each is proved to meet its contract on all inputs; this crate adds slices, units
-//! and an error type, and has no unsafe code.
+//! and an error type.
 #![forbid(unsafe_code)]
 #![deny(missing_docs)]
 

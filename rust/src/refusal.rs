@@ -116,15 +116,24 @@ impl Error for Refused {}
 /// The value of a served call, or the refusal.
 #[inline]
 pub(crate) fn served(answer: Answer) -> Result<u64, Refused> {
-    let refusal = match answer.number {
-        0 => return Ok(answer.value),
+    if answer.number == 0 {
+        Ok(answer.value)
+    } else {
+        Err(refused(answer.number, answer.place))
+    }
+}
+
+/// Apart, so that a call that is served has one test to pass.
+#[cold]
+fn refused(number: u32, place: u64) -> Refused {
+    let refusal = match number {
         1 => Refusal::Precision,
         2 => Refusal::ShortBuffer,
         3 => Refusal::NodeNumber,
         4 => Refusal::FractionBits,
         5 => Refusal::NotNormalised,
         6 => Refusal::WrongWord,
-        number => unreachable!("the library is proved to answer by no number but 0 to 6: {number}"),
+        _ => unreachable!("the library is proved to answer by no number but 0 to 6: {number}"),
     };
-    Err(Refused { refusal, place: answer.place })
+    Refused { refusal, place }
 }
