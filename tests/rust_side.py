@@ -22,7 +22,7 @@ def run(words, cwd=ROOT, stdin=b"", **more):
 
 def end(done):
     """None where a command ended well, else the last that it said."""
-    return None if done.returncode == 0 else f"status {done.returncode}: {(done.stdout + done.stderr).decode()[-1500:]}"
+    return None if done.returncode == 0 else f"status {done.returncode}: {(done.stderr + done.stdout).decode()[-1500:]}"
 
 
 @functools.cache
