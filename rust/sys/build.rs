@@ -2,9 +2,9 @@
 #![forbid(unsafe_code)]
 
 use std::env;
-use std::path::PathBuf;
+use std::path::{self, PathBuf};
 
-/// Where the archive is looked for where this is not set: the repository's `target/staticlib`.
+/// The variable that names the archive's folder, which is the repository's `target/staticlib` where it is not set.
 const FOLDER: &str = "YILDEGGA_LIB_DIR";
 
 fn main() {
@@ -13,6 +13,7 @@ fn main() {
         Some(folder) => PathBuf::from(folder),
         None => PathBuf::from(env!("CARGO_MANIFEST_DIR")).join("../../target/staticlib"),
     };
+    let folder = path::absolute(&folder).unwrap_or(folder); // so that the message says where it was looked for
     let archive = folder.join("libyildegga.a");
     // A new archive is linked anew.
     println!("cargo::rerun-if-changed={}", archive.display());
