@@ -11,15 +11,20 @@ import sys
 sys.path.insert(0, str(pathlib.Path(__file__).resolve().parent))
 sys.dont_write_bytecode = True
 
+import accuracy_page  # noqa: E402
 import c_side  # noqa: E402
+import comparing  # noqa: E402
 import programs  # noqa: E402
 import repository  # noqa: E402
+import rust_side  # noqa: E402
+
+PARTS = [programs, repository, c_side, rust_side, comparing, accuracy_page]
 
 
 def main():
     word = sys.argv[1] if len(sys.argv) > 1 else ""
     passed = failed = 0
-    for name, test in [*programs.tests(), *repository.tests(), *c_side.tests()]:
+    for name, test in [test for part in PARTS for test in part.tests()]:
         if word not in name:
             continue
         try:

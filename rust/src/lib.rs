@@ -1,0 +1,45 @@
+//! Reciprocal tables for graphics hardware, and the reciprocals taken from them, in which every word and every last place is proved.
+//!
+//! A table has a precision k from 1 to 12. Its image, a string of bit-packed words, stands in bytes that the caller lends, and each
+//! call takes k and those bytes:
+//!
+//! - [`build`] writes the image, [`image_length`] says how long it is;
+//! - [`check`] tells whether an image is right, and names the lowest node whose word is not;
+//! - [`node`] reads one node, [`word_bytes`] and [`word_range`] show the bytes that hold its word;
+//! - [`reciprocal`] gives the reciprocal of an operand, less than one ulp from the exact one;
+//! - a [`BoundTable`] keeps an image and its precision together for many operands.
+//!
+//! No call has a precondition: whatever breaks a limit is turned back as a [`Refused`], with a number and a place, and leaves every
+//! byte as it was. No call panics, allocates or keeps anything.
+//!
+//! ```
+//! // The image of precision 2, and the reciprocal of 135 / 2^7 in ulps of 1 / 2^5.
+//! let mut image = [0; 3];
+//! yildegga::build(2, &mut image)?;
+//! assert_eq!(image, [0x02, 0x75, 0x8A]);
+//! assert_eq!(yildegga::reciprocal(2, &image, 7, 135)?, yildegga::Ulps(30));
+//!
+//! // A caller's mistake is turned back.
+//! let refused = yildegga::build(2, &mut image[..2]).unwrap_err();
+//! assert_eq!(refused.number(), 2);
+//! # Ok::<(), yildegga::Refused>(())
+//! ```
+//!
+//! The calls are those of `libyildegga.a`, where each is proved to meet its contract on all inputs; this crate adds slices, units
+//! and an error type.
+#![forbid(unsafe_code)]
+#![deny(missing_docs)]
+
+mod bound;
+mod image;
+mod limits;
+mod operand;
+mod refusal;
+mod units;
+
+pub use bound::BoundTable;
+pub use image::{build, check, image_length, node, word_bytes, word_range};
+pub use limits::{GREATEST_PRECISION, LEAST_PRECISION, LONGEST_IMAGE, MOST_FRACTION_BITS};
+pub use operand::reciprocal;
+pub use refusal::{Refusal, Refused};
+pub use units::{TableUnits, Ulps, TABLE_UNITS_IN_ULP};
