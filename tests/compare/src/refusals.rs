@@ -1,0 +1,210 @@
+//! Numbers at and beyond each limit, in every combination.
+use crate::both::Both;
+use crate::independent::{image_refusals, is_precision, node_refusals, power, precisions, reciprocal_refusals, table, Judged, Refusal, LENGTHS};
+use crate::lent::{Buffer, Guards};
+use crate::library::{self, wide, Answer, Lent, Part};
+use crate::random::Random;
+use crate::work::{share, Counted};
+use std::ptr;
+use std::sync::atomic::{AtomicU64, Ordering};
+
+/// The precisions and numbers that are none.
+fn asked_precisions() -> Vec<u32> {
+    let beyond = [20, 31, 32, 33, 63, 64, 65, 127, 128, 255, 256, 257, 258, 268, 65538, (1 << 31) - 1, 1 << 31, (1 << 31) + 2, u32::MAX - 1, u32::MAX];
+    (0..=16).chain(beyond).collect()
+}
+
+/// Node numbers about the last one, and powers of two and their neighbours.
+fn asked_nodes(k: u32) -> Vec<u32> {
+    let last = power(k.min(31)) as u32;
+    let powers = (0..32).flat_map(|at| [(1u32 << at) - 1, 1 << at, (1 << at) + 1]);
+    let mut nodes: Vec<u32> = powers.chain([last / 2 + 3, last - 1, last, last + 1, last + 2, u32::MAX - 1, u32::MAX]).collect();
+    nodes.extend((8..32).map(|at| (1u32 << at) + (last - 1) % (1 << at))); // the same as a node in fewer bits
+    sorted(nodes)
+}
+
+/// Numbers of fraction bits: all about the limits, and others that are the same in fewer bits.
+fn asked_fraction_bits() -> Vec<u32> {
+    let beyond = [95, 96, 99, 127, 128, 135, 255, 256, 263, 319, 511, 512, 65535, 65536, 65543, 65599];
+    let far = [(1 << 31) - 1, 1 << 31, (1 << 31) + 7, (1 << 31) + 63, u32::MAX - 56, u32::MAX - 1, u32::MAX];
+    (0..=72).chain(beyond).chain(far).collect()
+}
+
+/// Operands: powers of two and their neighbours, and random ones of every length.
+fn asked_operands() -> Vec<u64> {
+    let mut random = Random::new(5);
+    let powers = (0..64).flat_map(|at| [(1u64 << at) - 1, 1 << at, (1 << at) + 1]);
+    let within: Vec<u64> = (0..64).map(|at| (1 << at) + random.below(1 << at)).collect();
+    sorted(powers.chain(within).chain([u64::MAX - 1, u64::MAX]).collect())
+}
+
+fn sorted<N: Ord>(mut numbers: Vec<N>) -> Vec<N> {
+    numbers.sort_unstable();
+    numbers.dedup();
+    numbers
+}
+
+/// The bytes that a buffer really has: what a call does not look at needs not be there.
+const ROOM: usize = 32768;
+
+/// Lengths about each image length, and huge ones. A served call looks at nothing past the image, and one that is turned back at no
+/// byte, so that any length can be said of a buffer that has the image.
+fn asked_lengths(k: u32) -> Vec<usize> {
+    let mut lengths = vec![0, 1, 2, 28671, 28672, ROOM];
+    lengths.extend([(1 << 31) - 1, 1 << 31, (1 << 32) - 1, 1 << 32, (1 << 32) + 1, 1 << 61, (1 << 63) - 1, 1 << 63, usize::MAX - 1, usize::MAX]);
+    if is_precision(k) {
+        let length = LENGTHS[k as usize - 1];
+        lengths.extend([length / 2, length.saturating_sub(2), length - 1, length, length + 1, length + 8]);
+        lengths.extend([256 + length - 1, 65536 + length - 1].into_iter().filter(|length| *length <= ROOM));
+        lengths.extend([LENGTHS[k as usize % 12], (1 << 32) + length - 1]);
+    }
+    sorted(lengths)
+}
+
+/// What a buffer holds, and whether each of its words is wrong.
+fn contents(k: u32) -> Vec<(Vec<u8>, bool)> {
+    let k = if is_precision(k) { k } else { 12 };
+    let mut random = Random::new(u64::from(k));
+    let right: Vec<u8> = table(k).image.iter().copied().chain(random.bytes(ROOM)).take(ROOM).collect();
+    let wrong = right.iter().map(|byte| !byte).collect();
+    let mut damaged = right.clone();
+    damaged[table(k).image.len() / 2] ^= 16;
+    vec![(right, false), (wrong, true), (damaged, false), (random.bytes(ROOM), false)]
+}
+
+/// How often each set of refusals applied to a call: the bits of a set are the numbers of its refusals.
+struct Met(Vec<AtomicU64>);
+
+impl Met {
+    fn new() -> Met {
+        Met((0..128).map(|_| AtomicU64::new(0)).collect())
+    }
+
+    fn add(&self, refusals: &[Refusal], wrong: bool) {
+        let words = [(6, wrong)];
+        let applying = refusals.iter().chain(&words).filter(|(_, applies)| *applies);
+        self.0[applying.map(|(number, _)| 1 << number).sum::<usize>()].fetch_add(1, Ordering::Relaxed);
+    }
+
+    /// Each refusal applied alone, each two applied together and no other with them, and none did.
+    fn all(&self, call: &str, numbers: &[u32]) -> Result<(), String> {
+        let alone_or_together = numbers.iter().flat_map(|one| numbers.iter().map(move |other| (1 << one) | (1 << other)));
+        match alone_or_together.chain([0usize]).find(|set| self.0[*set].load(Ordering::Relaxed) == 0) {
+            Some(set) => Err(format!("{call}: no case has just the refusals of the set {set:#b}")),
+            None => Ok(()),
+        }
+    }
+}
+
+/// Every call with every combination of the numbers asked. Each pair of refusals must have been met.
+pub fn combinations(guards: Guards, whole: bool) -> Counted {
+    let works: Vec<(u32, usize)> = asked_precisions().into_iter().flat_map(|k| asked_lengths(k).into_iter().map(move |length| (k, length))).collect();
+    let every = if whole { 1 } else { 11 };
+    let (bits, operands) = (asked_fraction_bits(), asked_operands());
+    let (met_image, met_node, met_reciprocal) = (Met::new(), Met::new(), Met::new());
+    let cases = share(&works, |&(k, length)| {
+        let mut cases = 0;
+        let mut random = Random::new(length as u64 ^ u64::from(k));
+        let kinds = contents(k);
+        for (content, wrong) in &kinds[..if whole || is_precision(k) { 4 } else { 1 }] {
+            let (wrong, there) = (*wrong, length.min(ROOM));
+            let mut buffer = Buffer::new(guards, random.below(16) as usize, &content[..there]);
+            let lent = Lent { length, ..buffer.lent() };
+            let judged = Judged::new(k, &content[..there], length);
+            let mut both = Both::new(lent, &judged, &content[..there]);
+            both.check()?;
+            met_image.add(&image_refusals(k, length), wrong);
+            for j in asked_nodes(k).into_iter().skip(random.below(every) as usize).step_by(every as usize) {
+                both.node(j)?;
+                both.word_bytes(j)?;
+                met_node.add(&node_refusals(k, length, j), wrong);
+            }
+            for n in &bits {
+                for x in operands.iter().skip(random.below(every) as usize).step_by(every as usize) {
+                    both.reciprocal(*n, *x)?;
+                    met_reciprocal.add(&reciprocal_refusals(k, length, *n, *x), wrong);
+                }
+            }
+            let after = || format!("the calls but the builder, k {k}, length {length}");
+            buffer.as_kept(after)?;
+            both.build()?;
+            cases += both.cases;
+            if judged.build().number == 0 {
+                buffer.awaits(&table(k).image);
+            }
+            buffer.as_kept(|| format!("the builder, k {k}, length {length}"))?;
+        }
+        Ok(cases)
+    })?;
+    met_image.all("check", &[1, 2, 6])?;
+    met_node.all("node", &[1, 2, 3, 6])?;
+    met_reciprocal.all("reciprocal", &[1, 2, 4, 5, 6])?;
+    Ok(cases)
+}
+
+/// Registers whose upper halves are not 0: a number of 32 bits is what stands in the lower half.
+pub fn upper_halves(guards: Guards) -> Counted {
+    let mut random = Random::new(11);
+    let mut cases = 0;
+    for k in asked_precisions() {
+        let content = table(if is_precision(k) { k } else { 12 }).image.clone();
+        let judged = Judged::new(k, &content, content.len());
+        for _ in 0..64 {
+            let mut buffer = Buffer::new(guards, 1, &content);
+            let lent = buffer.lent();
+            let mut upper = |low: u32| u64::from(low) | [1, u64::from(u32::MAX), random.next() | 1 << 31][random.below(3) as usize] << 32;
+            let j = upper(0).wrapping_mul(0x9E37_79B9) as u32 % (power(k.min(13)) as u32 + 2);
+            let n = 2 * k.min(12) + 2 + j % 40;
+            let x = (1u64 << n.min(63)) + u64::from(j);
+            let wide_k = upper(k);
+            let found = [
+                wide::check(wide_k, lent),
+                wide::node(wide_k, lent, upper(j)),
+                wide::bound_node(wide_k, lent, upper(j)),
+                wide::reciprocal(wide_k, lent, upper(n), x),
+                wide::bound_reciprocal(wide_k, lent, upper(n), x),
+            ];
+            let expected = [judged.check(), judged.node(j), judged.node(j), judged.reciprocal(n, x), judged.reciprocal(n, x)];
+            let (found_part, expected_part) = (wide::word_bytes(wide_k, lent, upper(j)), judged.word_bytes(j));
+            let lengths = (wide::image_length(wide_k), if is_precision(k) { content.len() } else { 0 });
+            let built = (wide::build(wide_k, lent), judged.build());
+            if found != expected || found_part != expected_part || lengths.0 != lengths.1 || built.0 != built.1 {
+                return Err(format!(
+                    "registers, k {k} in {wide_k:#x}, its image, j {j}, n {n}, x {x}: check, node, bound node, reciprocal, bound reciprocal are \
+                     {found:?}, {found_part:?}, {lengths:?}, {built:?}, expected are {expected:?}, {expected_part:?}"
+                ));
+            }
+            buffer.as_kept(|| format!("the calls with whole registers, k {k}"))?;
+            cases += 8;
+        }
+    }
+    Ok(cases)
+}
+
+/// No bytes at all: NULL with length 0.
+pub fn no_bytes() -> Counted {
+    let null = Lent { start: ptr::null_mut(), length: 0 };
+    let mut cases = 0;
+    for k in asked_precisions() {
+        let refused = Answer { number: if is_precision(k) { 2 } else { 1 }, place: 0, value: 0 };
+        let judged = Judged::new(k, &[], 0);
+        let mut both = Both::new(null, &judged, &[]);
+        if judged.check() != refused || library::word_bytes(k, null, 0) != (Part { offset: 0, count: 0 }) {
+            return Err(format!("NULL with length 0, k {k}: expected are {refused:?} and no bytes"));
+        }
+        both.check()?;
+        both.build()?;
+        for j in asked_nodes(k) {
+            both.node(j)?;
+            both.word_bytes(j)?;
+        }
+        for n in asked_fraction_bits() {
+            for x in asked_operands() {
+                both.reciprocal(n, x)?;
+            }
+        }
+        cases += both.cases;
+    }
+    assert_eq!(precisions().count(), LENGTHS.len());
+    Ok(cases)
+}
