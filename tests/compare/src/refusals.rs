@@ -106,7 +106,7 @@ pub fn combinations(guards: Guards, whole: bool) -> Counted {
         let mut cases = 0;
         let mut random = Random::new(length as u64 ^ u64::from(k));
         let kinds = contents(k);
-        for (content, wrong) in &kinds[..if whole || is_precision(k) { 4 } else { 1 }] {
+        for (content, wrong) in &kinds[..if whole { 4 } else { 2 }] {
             let (wrong, there) = (*wrong, length.min(ROOM));
             let mut buffer = Buffer::new(guards, random.below(16) as usize, &content[..there]);
             let lent = Lent { length, ..buffer.lent() };

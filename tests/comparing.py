@@ -1,0 +1,108 @@
+"""Tests that compare the library, called as C calls it, with the independent implementation in tests/compare/, and one run of
+fewer cases under valgrind."""
+import functools
+import os
+import pathlib
+import re
+import shutil
+import subprocess
+
+ROOT = pathlib.Path(__file__).resolve().parent.parent
+ARCHIVE = ROOT / "target" / "staticlib" / "libyildegga.a"
+BUILT = ROOT / "target" / "cargo"
+
+# The parts of a run, each with the cases that it has at least.
+WHOLE = {
+    "every cut operand": sum(2 ** (2 * k + 3) for k in range(1, 13)),
+    "longer operands": 73_000_000,
+    "image lengths": 200,
+    "images built": 13_000,
+    "images read": 790_000,
+    "one bit changed": 13_000_000,
+    "two bits changed": 34_000_000,
+    "any content": 4_300_000,
+    "every content of the shortest images": 3 * 2 ** 24,
+    "refusals": 66_000_000,
+    "upper halves of registers": 18_000,
+    "no bytes": 890_000,
+    "fences": 220_000,
+}
+MEMORY = {
+    "blocks not written to": 24,
+    "images built": 840,
+    "images read": 49_000,
+    "one bit changed": 18_000,
+    "two bits changed": 8_900,
+    "any content": 53_000,
+    "every content of the shortest images": 5_300,
+    "refusals": 3_000_000,
+    "upper halves of registers": 18_000,
+    "fences": 47_000,
+}
+
+
+def run(*words, **more):
+    return subprocess.run(words, cwd=ROOT, stdin=subprocess.DEVNULL, capture_output=True, text=True, timeout=1800, **more)
+
+
+def well(*words, **more):
+    """Runs a command that must end with status 0."""
+    done = run(*words, **more)
+    assert done.returncode == 0, f"{' '.join(map(str, words))}: status {done.returncode}: {(done.stdout + done.stderr)[-400:]}"
+
+
+@functools.cache
+def program():
+    """The comparing program, linked with the archive, which is made where it is absent or older than the code."""
+    code = max(path.stat().st_mtime for path in (ROOT / "crates").rglob("*.rt"))
+    if not ARCHIVE.is_file() or ARCHIVE.stat().st_mtime < code:
+        well("rt", "staticlib", "yildegga")
+    given = {name: value for name, value in os.environ.items() if name != "YILDEGGA_LIB_DIR"}
+    given |= {"CARGO_TARGET_DIR": str(BUILT), "RUSTFLAGS": "-D warnings"}
+    well("cargo", "build", "--release", "--offline", "--locked", "--manifest-path", "tests/compare/Cargo.toml", env=given)
+    return BUILT / "release" / "compare"
+
+
+def valgrind():
+    """valgrind by its name; where the machine has none, Debian's package is installed."""
+    if not shutil.which("valgrind"):
+        install = ["apt-get", "install", "-y", "--no-install-recommends", "valgrind"]
+        if run(*install).returncode:
+            well("apt-get", "update")
+            well(*install)
+    return "valgrind"
+
+
+@functools.cache
+def whole_run():
+    return run(program())
+
+
+@functools.cache
+def memory_run():
+    return run(valgrind(), "--quiet", "--error-exitcode=9", program(), "memory")
+
+
+def counted(done, name, least):
+    """Whether a part of a run was equal, in as many cases as it has at least."""
+    found = re.search(f"^ok {name}: (\\d+) cases$", done.stdout, re.M)
+    if not found:
+        return f"status {done.returncode}: {done.stdout.splitlines()[-1:]} {done.stderr[:400]}"
+    return None if int(found[1]) >= least else f"it has {found[1]} cases, {least} or more are expected"
+
+
+def ended(done, parts):
+    """Whether a run ended well, had nothing to complain of, and had no part but these."""
+    if done.returncode or done.stderr:
+        return f"status {done.returncode}: {done.stdout.splitlines()[-1:]} {done.stderr[:1000]}"
+    names = re.findall(r"^ok (.*): \d+ cases$", done.stdout, re.M)
+    return None if names == list(parts) and len(names) == len(done.stdout.splitlines()) else f"it printed {done.stdout[-400:]!r}"
+
+
+def tests():
+    for name, least in WHOLE.items():
+        yield f"compare: {name}", lambda name=name, least=least: counted(whole_run(), name, least)
+    yield "compare: the run ends well", lambda: ended(whole_run(), WHOLE)
+    for name, least in MEMORY.items():
+        yield f"compare: under valgrind, {name}", lambda name=name, least=least: counted(memory_run(), name, least)
+    yield "compare: under valgrind, the run ends well", lambda: ended(memory_run(), MEMORY)
