@@ -18,12 +18,12 @@ WHOLE = {
     "image lengths": 200,
     "images built": 13_000,
     "images read": 790_000,
-    "one bit changed": 13_000_000,
-    "two bits changed": 34_000_000,
-    "any content": 4_300_000,
+    "one bit changed": 12_000_000,
+    "two bits changed": 30_000_000,
+    "any content": 3_700_000,
     "every content of the shortest images": 3 * 2 ** 24,
     "refusals": 66_000_000,
-    "upper halves of registers": 18_000,
+    "upper halves of registers": 21_000,
     "no bytes": 890_000,
     "fences": 220_000,
 }
@@ -36,7 +36,7 @@ MEMORY = {
     "any content": 53_000,
     "every content of the shortest images": 5_300,
     "refusals": 3_000_000,
-    "upper halves of registers": 18_000,
+    "upper halves of registers": 21_000,
     "fences": 47_000,
 }
 

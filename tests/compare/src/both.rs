@@ -71,7 +71,11 @@ impl<'a> Both<'a> {
             return Ok(());
         }
         let content = told(self.judged.k, self.bytes);
-        Err(format!("{}, at {:?}: the library gives {found:?}, expected is {expected:?}; the buffer is {content}", called(), self.lent.start))
+        Err(format!(
+            "{}, at {:?}: the library gives {found:?}, expected is {expected:?}; the buffer is {content}",
+            called(),
+            self.lent.start
+        ))
     }
 
     pub fn check(&mut self) -> Result<(), String> {
@@ -104,8 +108,8 @@ impl<'a> Both<'a> {
     }
 }
 
-/// A buffer's content: by its difference from the image where that is a few bits, else byte by byte.
-fn told(k: u32, bytes: &[u8]) -> String {
+/// A buffer's content in words: by its difference from the image where that is a few bits, else byte by byte.
+pub fn told(k: u32, bytes: &[u8]) -> String {
     if is_precision(k) && bytes.len() >= table(k).image.len() {
         let bits = &table(k).bits;
         let changed: Vec<usize> = (0..bits.len()).filter(|bit| (bytes[bit / 8] >> (7 - bit % 8) & 1 == 1) != bits[*bit]).collect();

@@ -1,5 +1,5 @@
 //! Images with wrong words: one bit changed, several, and buffers of any content.
-use crate::both::Both;
+use crate::both::{told, Both};
 use crate::independent::{power, precisions, table, width, Judged, MOST_FRACTION_BITS};
 use crate::lent::{Buffer, Guards};
 use crate::random::Random;
@@ -58,15 +58,19 @@ impl Damaged {
                 continue;
             }
             let (left, steps) = ((u64::from(count) + u64::from(j)) << (k + 3), 1u64 << (k + 3));
-            for f in [0, 1 + self.random.below(steps - 2), steps - 1] {
-                let n = 2 * k + 3 + self.random.below(u64::from(MOST_FRACTION_BITS - (2 * k + 3)) + 1) as u32;
-                let right = n - (2 * k + 3);
-                both.reciprocal(2 * k + 3, left + f)?;
-                both.reciprocal(n, ((left + f) << right) + self.random.below(1 << right))?;
-            }
+            let most = u64::from(MOST_FRACTION_BITS - (2 * k + 3));
+            let right = self.random.below(most + 1) as u32;
+            let (n, ones) = (2 * k + 3 + right, (1 << right) - 1);
+            let within = 1 + self.random.below(steps - 2);
+            // Each end of the piece alone and with as little or as much to its right as there can be, and a place within.
+            both.reciprocal(2 * k + 3, left)?;
+            both.reciprocal(n, left << right)?;
+            both.reciprocal(n, ((left + within) << right) + self.random.below(ones + 1))?;
+            both.reciprocal(2 * k + 3, left + steps - 1)?;
+            both.reciprocal(n, ((left + steps - 1) << right) + ones)?;
         }
         self.cases += both.cases;
-        self.buffer.as_kept(|| format!("the calls on a damaged image of precision {k}"))
+        self.buffer.as_kept(|| format!("the calls but build, k {k}, on {}", told(k, self.buffer.bytes())))
     }
 }
 
@@ -139,6 +143,7 @@ pub fn any_content(guards: Guards, random: usize) -> Counted {
         let image = &table(k).image;
         let length = image.len();
         let mut damaged = Damaged::new(guards, k, 31);
+        let beyond = |j: usize, c: u64| u128::from(c) * (power(k) + j as u128) - power(3 * k + 3); // what rounding up adds to c × i
         let mut contents: Vec<Vec<u8>> = vec![
             vec![0; length],
             vec![0xFF; length],
@@ -146,8 +151,8 @@ pub fn any_content(guards: Guards, random: usize) -> Counted {
             image.iter().rev().copied().collect(),
             [&image[1..], &image[..1]].concat(),
             [&image[length - 1..], &image[..length - 1]].concat(),
-            packed(k, |j, c| c - u64::from(power(3 * k + 3) % (power(k) + j as u128) != 0)), // rounded down
-            packed(k, |j, c| c - u64::from(2 * (u128::from(c) * (power(k) + j as u128) - power(3 * k + 3)) > power(k) + j as u128)), // to nearest
+            packed(k, |j, c| c - u64::from(beyond(j, c) > 0)), // rounded down
+            packed(k, |j, c| c - u64::from(2 * beyond(j, c) > power(k) + j as u128)), // rounded to nearest
             packed(k, |_, c| c + 1),
             packed(k, |j, c| if j == 0 { 1 << (2 * k + 1) } else { c }),
             packed(k, |_, c| c / 2), // with the leading one that is left out
@@ -201,7 +206,7 @@ pub fn every_content(guards: Guards, step: usize) -> Counted {
             both.reciprocal(7, 128 + u64::from(content / 4 % 128))?;
             damaged.cases += both.cases;
         }
-        damaged.buffer.as_kept(|| format!("the calls on the contents {from} to {} at precision {k}", to - 1))?;
+        damaged.buffer.as_kept(|| format!("check, node and reciprocal, k {k}, on the contents {from:06x} to {:06x}", to - 1))?;
         Ok(damaged.cases)
     })
 }

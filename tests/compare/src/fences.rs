@@ -158,7 +158,10 @@ fn images(fenced: &Fenced, k: u32, side: Side, step: usize) -> Counted {
         fenced.allow(READ_AND_WRITE);
         both.build()?;
         if !fenced.holds(side, image) {
-            return Err(format!("build, k {k}, {:?} byte at a fence, over bytes {byte:#x}: what is in the buffer is not its image, or more was written", side));
+            return Err(format!(
+                "build, k {k}, {:?} byte at a fence, over bytes {byte:#x}: what is in the buffer is not its image, or more was written",
+                side
+            ));
         }
         cases += both.cases;
     }
@@ -197,7 +200,9 @@ fn said_longer(fenced: &Fenced, k: u32, step: usize) -> Counted {
         fenced.allow(READ_AND_WRITE);
         both.build()?;
         if !fenced.holds(Side::Last, image) {
-            return Err(format!("build, k {k}, in a buffer said to have {length} bytes: what is in the buffer is not its image, or more was written"));
+            return Err(format!(
+                "build, k {k}, in a buffer said to have {length} bytes: what is in the buffer is not its image, or more was written"
+            ));
         }
         cases += both.cases;
     }

@@ -1,24 +1,25 @@
 //! Right images: built, checked, and every node and word read.
 use crate::both::Both;
-use crate::independent::{power, precisions, table, Judged, LENGTHS};
+use crate::independent::{is_precision, power, precisions, table, Judged, GREATEST, LEAST, LENGTHS};
 use crate::lent::{Buffer, Guards};
 use crate::library;
 use crate::random::Random;
 use crate::work::{share, Counted};
 
-/// What stands in a buffer before an image is built there.
-fn contents(k: u32, length: usize) -> Vec<Vec<u8>> {
+/// What stands in a buffer before an image is built there, by its name.
+fn contents(k: u32, length: usize) -> Vec<(&'static str, Vec<u8>)> {
     let image = &table(k).image;
     let rest = vec![0x5A; length - image.len()];
-    let mut random = Random::new(length as u64);
+    let complement: Vec<u8> = image.iter().map(|byte| !byte).collect();
+    let other = &table(if k == GREATEST { LEAST } else { k + 1 }).image;
     vec![
-        vec![0; length],
-        vec![0xFF; length],
-        (0..length).map(|at| (at * 7) as u8).collect(),
-        random.bytes(length),
-        [&image[..], &rest].concat(),
-        [image.iter().map(|byte| !byte).collect(), rest].concat(),
-        table(if k == 12 { 11 } else { k + 1 }).image.iter().cycle().take(length).copied().collect(),
+        ("zeros", vec![0; length]),
+        ("ones", vec![0xFF; length]),
+        ("a count by 7", (0..length).map(|at| (at * 7) as u8).collect()),
+        ("random bytes", Random::new(length as u64).bytes(length)),
+        ("the image", [&image[..], &rest].concat()),
+        ("its complement", [&complement[..], &rest].concat()),
+        ("another image", other.iter().cycle().take(length).copied().collect()),
     ]
 }
 
@@ -30,12 +31,12 @@ pub fn built(guards: Guards, shifts: &[usize]) -> Counted {
         let mut cases = 0;
         for more in [0, 1, 2, 3, 7, 8, 9, 16, 255, 13312] {
             let length = image.len() + more;
-            for content in contents(k, length) {
+            for (name, content) in contents(k, length) {
                 let mut buffer = Buffer::new(guards, shift, &content);
                 let judged = Judged::new(k, &content, length);
                 Both::new(buffer.lent(), &judged, &content).build()?;
                 buffer.awaits(image);
-                buffer.as_kept(|| format!("building the image of precision {k} with {shift} bytes before the buffer"))?;
+                buffer.as_kept(|| format!("build, k {k}, length {length}, over {name}, {shift} bytes after a multiple of 16"))?;
                 cases += 1;
             }
         }
@@ -60,7 +61,9 @@ pub fn read(guards: Guards, shifts: &[usize]) -> Counted {
                 both.word_bytes(j)?;
             }
             cases += both.cases;
-            buffer.as_kept(|| format!("reading the image of precision {k} with {shift} bytes before the buffer"))?;
+            buffer.as_kept(|| {
+                format!("check, node and word bytes, k {k}, its image and {more} bytes, {shift} bytes after a multiple of 16")
+            })?;
         }
         Ok(cases)
     })
@@ -71,7 +74,7 @@ pub fn lengths() -> Counted {
     let others = (0..32).flat_map(|at| [1u32 << at, (1 << at) - 1, (1 << at) + 1, u32::MAX - (1 << at), (1 << at) | 5]);
     let mut cases = 0;
     for k in (0..70).chain(others).chain([u32::MAX]) {
-        let expected = if (1..=12).contains(&k) { LENGTHS[k as usize - 1] } else { 0 };
+        let expected = if is_precision(k) { LENGTHS[k as usize - 1] } else { 0 };
         let found = library::image_length(k);
         if found != expected {
             return Err(format!("image length, k {k}: the library gives {found}, expected is {expected}"));

@@ -11,7 +11,7 @@ fn served(value: u64) -> Answer {
 
 #[cold]
 fn differs(k: u32, n: u32, x: u64, plain: Answer, bound: Answer, expected: Answer) -> String {
-    format!("reciprocal, k {k}, its image, n {n}, x {x}: the library gives {plain:?}, through a bound table {bound:?}, expected is {expected:?}")
+    format!("reciprocal, k {k}, its image, n {n}, x {x}: the library gives {plain:?}, bound {bound:?}, expected is {expected:?}")
 }
 
 #[cold]
@@ -128,7 +128,9 @@ impl Longer {
                 return Err(differs(k, n, x, plain, bound, expected));
             }
             if plain != alone {
-                return Err(format!("reciprocal, k {k}, its image: n {n}, x {x} gives {plain:?}, without the bits to the right of {t} it is {alone:?}"));
+                return Err(format!(
+                    "reciprocal, k {k}, its image: n {n}, x {x} gives {plain:?}, without the bits to the right of {t} it is {alone:?}"
+                ));
             }
             if !within_an_ulp(k, n, x, plain.value) {
                 return Err(an_ulp_off(k, n, x, plain.value));

@@ -1,6 +1,8 @@
 //! Numbers at and beyond each limit, in every combination.
-use crate::both::Both;
-use crate::independent::{image_refusals, is_precision, node_refusals, power, precisions, reciprocal_refusals, table, Judged, Refusal, LENGTHS};
+use crate::both::{told, Both};
+use crate::independent::{
+    image_refusals, is_precision, node_refusals, power, reciprocal_refusals, table, Judged, Refusal, GREATEST, LENGTHS,
+};
 use crate::lent::{Buffer, Guards};
 use crate::library::{self, wide, Answer, Lent, Part};
 use crate::random::Random;
@@ -10,7 +12,28 @@ use std::sync::atomic::{AtomicU64, Ordering};
 
 /// The precisions and numbers that are none.
 fn asked_precisions() -> Vec<u32> {
-    let beyond = [20, 31, 32, 33, 63, 64, 65, 127, 128, 255, 256, 257, 258, 268, 65538, (1 << 31) - 1, 1 << 31, (1 << 31) + 2, u32::MAX - 1, u32::MAX];
+    let beyond = [
+        20,
+        31,
+        32,
+        33,
+        63,
+        64,
+        65,
+        127,
+        128,
+        255,
+        256,
+        257,
+        258,
+        268,
+        65538,
+        (1 << 31) - 1,
+        1 << 31,
+        (1 << 31) + 2,
+        u32::MAX - 1,
+        u32::MAX,
+    ];
     (0..=16).chain(beyond).collect()
 }
 
@@ -51,7 +74,18 @@ const ROOM: usize = 32768;
 /// byte, so that any length can be said of a buffer that has the image.
 fn asked_lengths(k: u32) -> Vec<usize> {
     let mut lengths = vec![0, 1, 2, 28671, 28672, ROOM];
-    lengths.extend([(1 << 31) - 1, 1 << 31, (1 << 32) - 1, 1 << 32, (1 << 32) + 1, 1 << 61, (1 << 63) - 1, 1 << 63, usize::MAX - 1, usize::MAX]);
+    lengths.extend([
+        (1 << 31) - 1,
+        1 << 31,
+        (1 << 32) - 1,
+        1 << 32,
+        (1 << 32) + 1,
+        1 << 61,
+        (1 << 63) - 1,
+        1 << 63,
+        usize::MAX - 1,
+        usize::MAX,
+    ]);
     if is_precision(k) {
         let length = LENGTHS[k as usize - 1];
         lengths.extend([length / 2, length.saturating_sub(2), length - 1, length, length + 1, length + 8]);
@@ -98,7 +132,8 @@ impl Met {
 
 /// Every call with every combination of the numbers asked. Each pair of refusals must have been met.
 pub fn combinations(guards: Guards, whole: bool) -> Counted {
-    let works: Vec<(u32, usize)> = asked_precisions().into_iter().flat_map(|k| asked_lengths(k).into_iter().map(move |length| (k, length))).collect();
+    let works: Vec<(u32, usize)> =
+        asked_precisions().into_iter().flat_map(|k| asked_lengths(k).into_iter().map(move |length| (k, length))).collect();
     let every = if whole { 1 } else { 11 };
     let (bits, operands) = (asked_fraction_bits(), asked_operands());
     let (met_image, met_node, met_reciprocal) = (Met::new(), Met::new(), Met::new());
@@ -125,14 +160,13 @@ pub fn combinations(guards: Guards, whole: bool) -> Counted {
                     met_reciprocal.add(&reciprocal_refusals(k, length, *n, *x), wrong);
                 }
             }
-            let after = || format!("the calls but the builder, k {k}, length {length}");
-            buffer.as_kept(after)?;
+            buffer.as_kept(|| format!("the calls but build, k {k}, length {length}, on {}", told(k, &content[..there])))?;
             both.build()?;
             cases += both.cases;
             if judged.build().number == 0 {
                 buffer.awaits(&table(k).image);
             }
-            buffer.as_kept(|| format!("the builder, k {k}, length {length}"))?;
+            buffer.as_kept(|| format!("build, k {k}, length {length}, on {}", told(k, &content[..there])))?;
         }
         Ok(cases)
     })?;
@@ -147,36 +181,37 @@ pub fn upper_halves(guards: Guards) -> Counted {
     let mut random = Random::new(11);
     let mut cases = 0;
     for k in asked_precisions() {
-        let content = table(if is_precision(k) { k } else { 12 }).image.clone();
-        let judged = Judged::new(k, &content, content.len());
-        for _ in 0..64 {
-            let mut buffer = Buffer::new(guards, 1, &content);
-            let lent = buffer.lent();
-            let mut upper = |low: u32| u64::from(low) | [1, u64::from(u32::MAX), random.next() | 1 << 31][random.below(3) as usize] << 32;
-            let j = upper(0).wrapping_mul(0x9E37_79B9) as u32 % (power(k.min(13)) as u32 + 2);
-            let n = 2 * k.min(12) + 2 + j % 40;
-            let x = (1u64 << n.min(63)) + u64::from(j);
-            let wide_k = upper(k);
-            let found = [
-                wide::check(wide_k, lent),
-                wide::node(wide_k, lent, upper(j)),
-                wide::bound_node(wide_k, lent, upper(j)),
-                wide::reciprocal(wide_k, lent, upper(n), x),
-                wide::bound_reciprocal(wide_k, lent, upper(n), x),
-            ];
-            let expected = [judged.check(), judged.node(j), judged.node(j), judged.reciprocal(n, x), judged.reciprocal(n, x)];
-            let (found_part, expected_part) = (wide::word_bytes(wide_k, lent, upper(j)), judged.word_bytes(j));
-            let lengths = (wide::image_length(wide_k), if is_precision(k) { content.len() } else { 0 });
-            let built = (wide::build(wide_k, lent), judged.build());
-            if found != expected || found_part != expected_part || lengths.0 != lengths.1 || built.0 != built.1 {
-                return Err(format!(
-                    "registers, k {k} in {wide_k:#x}, its image, j {j}, n {n}, x {x}: check, node, bound node, reciprocal, bound reciprocal are \
-                     {found:?}, {found_part:?}, {lengths:?}, {built:?}, expected are {expected:?}, {expected_part:?}"
-                ));
+        let image = &table(if is_precision(k) { k } else { GREATEST }).image;
+        let judged = Judged::new(k, image, image.len());
+        let image_length = if is_precision(k) { image.len() } else { 0 };
+        let mut buffer = Buffer::new(guards, 1, image);
+        let lent = buffer.lent();
+        for upper in [1, 1 << 31, u64::from(u32::MAX), random.next() >> 32, random.next() >> 32, random.next() >> 32] {
+            for _ in 0..16 {
+                let j = random.below((power(k.min(GREATEST)) + 2) as u64) as u32;
+                let n = 2 * k.min(GREATEST) + 2 + random.below(40) as u32;
+                let x = (1 << n.min(63)) + random.below(1 << n.min(63));
+                let [wide_k, wide_j, wide_n] = [k, j, n].map(|number| u64::from(number) | upper << 32);
+                let found = (
+                    [wide::build(wide_k, lent), wide::check(wide_k, lent)],
+                    [wide::node(wide_k, lent, wide_j), wide::bound_node(wide_k, lent, wide_j)],
+                    [wide::reciprocal(wide_k, lent, wide_n, x), wide::bound_reciprocal(wide_k, lent, wide_n, x)],
+                    (wide::word_bytes(wide_k, lent, wide_j), wide::image_length(wide_k)),
+                );
+                let expected = (
+                    [judged.build(), judged.check()],
+                    [judged.node(j); 2],
+                    [judged.reciprocal(n, x); 2],
+                    (judged.word_bytes(j), image_length),
+                );
+                if found != expected {
+                    let inputs = format!("each call, k {k}, j {j}, n {n}, x {x}, its image, above the numbers {upper:#x}");
+                    return Err(format!("{inputs}: the library gives {found:?}, expected is {expected:?}"));
+                }
+                cases += 6;
             }
-            buffer.as_kept(|| format!("the calls with whole registers, k {k}"))?;
-            cases += 8;
         }
+        buffer.as_kept(|| format!("each call, k {k}, on its image"))?;
     }
     Ok(cases)
 }
@@ -205,6 +240,5 @@ pub fn no_bytes() -> Counted {
         }
         cases += both.cases;
     }
-    assert_eq!(precisions().count(), LENGTHS.len());
     Ok(cases)
 }
