@@ -8,33 +8,13 @@ use crate::library::{self, wide, Answer, Lent, Part};
 use crate::random::Random;
 use crate::work::{share, Counted};
 use std::ptr;
-use std::sync::atomic::{AtomicU64, Ordering};
+use std::sync::atomic::{AtomicBool, Ordering};
 
 /// The precisions and numbers that are none.
 fn asked_precisions() -> Vec<u32> {
-    let beyond = [
-        20,
-        31,
-        32,
-        33,
-        63,
-        64,
-        65,
-        127,
-        128,
-        255,
-        256,
-        257,
-        258,
-        268,
-        65538,
-        (1 << 31) - 1,
-        1 << 31,
-        (1 << 31) + 2,
-        u32::MAX - 1,
-        u32::MAX,
-    ];
-    (0..=16).chain(beyond).collect()
+    let beyond = [20, 31, 32, 33, 63, 64, 65, 127, 128, 255, 256, 257, 258, 268, 65538];
+    let far = [(1 << 31) - 1, 1 << 31, (1 << 31) + 2, u32::MAX - 1, u32::MAX];
+    (0..=16).chain(beyond).chain(far).collect()
 }
 
 /// Node numbers about the last one, and powers of two and their neighbours.
@@ -67,30 +47,20 @@ fn sorted<N: Ord>(mut numbers: Vec<N>) -> Vec<N> {
     numbers
 }
 
-/// The bytes that a buffer really has: what a call does not look at needs not be there.
+/// The bytes that a buffer has at most, though it may be said to have more.
 const ROOM: usize = 32768;
 
-/// Lengths about each image length, and huge ones. A served call looks at nothing past the image, and one that is turned back at no
-/// byte, so that any length can be said of a buffer that has the image.
+/// Lengths about each image length, and huge ones. A call looks at nothing past the image, so that a buffer which has one may be said to
+/// have any length.
 fn asked_lengths(k: u32) -> Vec<usize> {
-    let mut lengths = vec![0, 1, 2, 28671, 28672, ROOM];
-    lengths.extend([
-        (1 << 31) - 1,
-        1 << 31,
-        (1 << 32) - 1,
-        1 << 32,
-        (1 << 32) + 1,
-        1 << 61,
-        (1 << 63) - 1,
-        1 << 63,
-        usize::MAX - 1,
-        usize::MAX,
-    ]);
+    let mut lengths = vec![0, 1, 2, 28671, 28672, ROOM, (1 << 31) - 1, 1 << 31];
+    lengths.extend([32, 61, 63].iter().flat_map(|at| [(1 << at) - 1, 1 << at, (1 << at) + 1]));
+    lengths.extend([usize::MAX - 1, usize::MAX]);
     if is_precision(k) {
         let length = LENGTHS[k as usize - 1];
         lengths.extend([length / 2, length.saturating_sub(2), length - 1, length, length + 1, length + 8]);
-        lengths.extend([256 + length - 1, 65536 + length - 1].into_iter().filter(|length| *length <= ROOM));
-        lengths.extend([LENGTHS[k as usize % 12], (1 << 32) + length - 1]);
+        lengths.extend([8, 16, 32].map(|at| (1 << at) + length - 1)); // too short in fewer bits
+        lengths.push(LENGTHS[k as usize % 12]);
     }
     sorted(lengths)
 }
@@ -106,24 +76,27 @@ fn contents(k: u32) -> Vec<(Vec<u8>, bool)> {
     vec![(right, false), (wrong, true), (damaged, false), (random.bytes(ROOM), false)]
 }
 
-/// How often each set of refusals applied to a call: the bits of a set are the numbers of its refusals.
-struct Met(Vec<AtomicU64>);
+/// Whether each set of refusals applied to a call: the bits of a set are the numbers of its refusals.
+struct Met(Vec<AtomicBool>);
 
 impl Met {
     fn new() -> Met {
-        Met((0..128).map(|_| AtomicU64::new(0)).collect())
+        Met((0..128).map(|_| AtomicBool::new(false)).collect())
     }
 
     fn add(&self, refusals: &[Refusal], wrong: bool) {
         let words = [(6, wrong)];
         let applying = refusals.iter().chain(&words).filter(|(_, applies)| *applies);
-        self.0[applying.map(|(number, _)| 1 << number).sum::<usize>()].fetch_add(1, Ordering::Relaxed);
+        let met = &self.0[applying.map(|(number, _)| 1 << number).sum::<usize>()];
+        if !met.load(Ordering::Relaxed) {
+            met.store(true, Ordering::Relaxed);
+        }
     }
 
     /// Each refusal applied alone, each two applied together and no other with them, and none did.
     fn all(&self, call: &str, numbers: &[u32]) -> Result<(), String> {
         let alone_or_together = numbers.iter().flat_map(|one| numbers.iter().map(move |other| (1 << one) | (1 << other)));
-        match alone_or_together.chain([0usize]).find(|set| self.0[*set].load(Ordering::Relaxed) == 0) {
+        match alone_or_together.chain([0usize]).find(|set| !self.0[*set].load(Ordering::Relaxed)) {
             Some(set) => Err(format!("{call}: no case has just the refusals of the set {set:#b}")),
             None => Ok(()),
         }
