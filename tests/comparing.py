@@ -83,26 +83,30 @@ def memory_run():
     return run(valgrind(), "--quiet", "--error-exitcode=9", program(), "memory")
 
 
-def counted(done, name, least):
+def counts(done):
+    """The cases of each part that a run found equal."""
+    return {name: int(cases) for name, cases in re.findall(r"^ok (.*): (\d+) cases$", done.stdout, re.M)}
+
+
+def counted(done, parts, name):
     """Whether a part of a run was equal, in as many cases as it has at least."""
-    found = re.search(f"^ok {name}: (\\d+) cases$", done.stdout, re.M)
-    if not found:
-        return f"status {done.returncode}: {done.stdout.splitlines()[-1:]} {done.stderr[:400]}"
-    return None if int(found[1]) >= least else f"it has {found[1]} cases, {least} or more are expected"
+    found = counts(done)
+    if name in found:
+        return None if found[name] >= parts[name] else f"it has {found[name]} cases, {parts[name]} or more are expected"
+    if name != next(part for part in parts if part not in found):
+        return "the run ended before it"
+    return f"status {done.returncode}: {''.join(done.stdout.splitlines()[-1:])} {done.stderr[:400]}"
 
 
 def ended(done, parts):
-    """Whether a run ended well, had nothing to complain of, and had no part but these."""
+    """Whether a run ended well, had nothing to complain of, and had these parts and no others."""
     if done.returncode or done.stderr:
-        return f"status {done.returncode}: {done.stdout.splitlines()[-1:]} {done.stderr[:1000]}"
-    names = re.findall(r"^ok (.*): \d+ cases$", done.stdout, re.M)
-    return None if names == list(parts) and len(names) == len(done.stdout.splitlines()) else f"it printed {done.stdout[-400:]!r}"
+        return f"status {done.returncode}: {done.stderr[:1000]}"
+    return None if list(counts(done)) == list(parts) else f"its parts are {', '.join(counts(done))}"
 
 
 def tests():
-    for name, least in WHOLE.items():
-        yield f"compare: {name}", lambda name=name, least=least: counted(whole_run(), name, least)
-    yield "compare: the run ends well", lambda: ended(whole_run(), WHOLE)
-    for name, least in MEMORY.items():
-        yield f"compare: under valgrind, {name}", lambda name=name, least=least: counted(memory_run(), name, least)
-    yield "compare: under valgrind, the run ends well", lambda: ended(memory_run(), MEMORY)
+    for before, run_once, parts in ("", whole_run, WHOLE), ("under valgrind, ", memory_run, MEMORY):
+        for name in parts:
+            yield f"compare: {before}{name}", lambda r=run_once, p=parts, n=name: counted(r(), p, n)
+        yield f"compare: {before}the run ends well", lambda r=run_once, p=parts: ended(r(), p)
