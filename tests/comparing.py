@@ -35,7 +35,7 @@ MEMORY = {
     "two bits changed": 7_900,
     "any content": 46_000,
     "every content of the shortest images": 5_300,
-    "refusals": 3_000_000,
+    "refusals": 3_500_000,
     "upper halves of registers": 21_000,
     "fences": 47_000,
 }
