@@ -1,0 +1,112 @@
+"""Tests that compare the library, called as C calls it, with the independent implementation in tests/compare/, and one run of
+fewer cases under valgrind."""
+import functools
+import os
+import pathlib
+import re
+import shutil
+import subprocess
+
+ROOT = pathlib.Path(__file__).resolve().parent.parent
+ARCHIVE = ROOT / "target" / "staticlib" / "libyildegga.a"
+BUILT = ROOT / "target" / "cargo"
+
+# The parts of a run, each with the cases that it has at least.
+WHOLE = {
+    "every cut operand": sum(2 ** (2 * k + 3) for k in range(1, 13)),
+    "longer operands": 73_000_000,
+    "image lengths": 200,
+    "images built": 13_000,
+    "images read": 790_000,
+    "one bit changed": 12_000_000,
+    "two bits changed": 30_000_000,
+    "any content": 3_700_000,
+    "every content of the shortest images": 3 * 2 ** 24,
+    "refusals": 78_000_000,
+    "upper halves of registers": 21_000,
+    "no bytes": 890_000,
+    "fences": 220_000,
+}
+MEMORY = {
+    "blocks not written to": 24,
+    "images built": 840,
+    "images read": 49_000,
+    "one bit changed": 15_000,
+    "two bits changed": 7_900,
+    "any content": 46_000,
+    "every content of the shortest images": 5_300,
+    "refusals": 3_500_000,
+    "upper halves of registers": 21_000,
+    "fences": 47_000,
+}
+
+
+def run(*words, **more):
+    return subprocess.run(words, cwd=ROOT, stdin=subprocess.DEVNULL, capture_output=True, text=True, timeout=1800, **more)
+
+
+def well(*words, **more):
+    """Runs a command that must end with status 0."""
+    done = run(*words, **more)
+    assert done.returncode == 0, f"{' '.join(map(str, words))}: status {done.returncode}: {(done.stdout + done.stderr)[-400:]}"
+
+
+@functools.cache
+def program():
+    """The comparing program, linked with the archive, which is made where it is absent or older than the code."""
+    code = max(path.stat().st_mtime for path in (ROOT / "crates").rglob("*.rt"))
+    if not ARCHIVE.is_file() or ARCHIVE.stat().st_mtime < code:
+        well("rt", "staticlib", "yildegga")
+    given = {name: value for name, value in os.environ.items() if name != "YILDEGGA_LIB_DIR"}
+    given |= {"CARGO_TARGET_DIR": str(BUILT), "RUSTFLAGS": "-D warnings"}
+    well("cargo", "build", "--release", "--offline", "--locked", "--manifest-path", "tests/compare/Cargo.toml", env=given)
+    return BUILT / "release" / "compare"
+
+
+def valgrind():
+    """valgrind by its name; where the machine has none, Debian's package is installed."""
+    if not shutil.which("valgrind"):
+        install = ["apt-get", "install", "-y", "--no-install-recommends", "valgrind"]
+        if run(*install).returncode:
+            well("apt-get", "update")
+            well(*install)
+    return "valgrind"
+
+
+@functools.cache
+def whole_run():
+    return run(program())
+
+
+@functools.cache
+def memory_run():
+    return run(valgrind(), "--quiet", "--error-exitcode=9", program(), "memory")
+
+
+def counts(done):
+    """The cases of each part that a run found equal."""
+    return {name: int(cases) for name, cases in re.findall(r"^ok (.*): (\d+) cases$", done.stdout, re.M)}
+
+
+def counted(done, parts, name):
+    """Whether a part of a run was equal, in as many cases as it has at least."""
+    found = counts(done)
+    if name in found:
+        return None if found[name] >= parts[name] else f"it has {found[name]} cases, {parts[name]} or more are expected"
+    if name != next(part for part in parts if part not in found):
+        return "the run ended before it"
+    return f"status {done.returncode}: {''.join(done.stdout.splitlines()[-1:])} {done.stderr[:400]}"
+
+
+def ended(done, parts):
+    """Whether a run ended well, had nothing to complain of, and had these parts and no others."""
+    if done.returncode or done.stderr:
+        return f"status {done.returncode}: {done.stderr[:1000]}"
+    return None if list(counts(done)) == list(parts) else f"its parts are {', '.join(counts(done))}"
+
+
+def tests():
+    for before, run_once, parts in ("", whole_run, WHOLE), ("under valgrind, ", memory_run, MEMORY):
+        for name in parts:
+            yield f"compare: {before}{name}", lambda r=run_once, p=parts, n=name: counted(r(), p, n)
+        yield f"compare: {before}the run ends well", lambda r=run_once, p=parts: ended(r(), p)
