@@ -11,6 +11,7 @@ import sys
 sys.path.insert(0, str(pathlib.Path(__file__).resolve().parent))
 sys.dont_write_bytecode = True
 
+import accuracy_page  # noqa: E402
 import programs  # noqa: E402
 import repository  # noqa: E402
 
@@ -18,7 +19,7 @@ import repository  # noqa: E402
 def main():
     word = sys.argv[1] if len(sys.argv) > 1 else ""
     passed = failed = 0
-    for name, test in [*programs.tests(), *repository.tests()]:
+    for name, test in [*programs.tests(), *repository.tests(), *accuracy_page.tests()]:
         if word not in name:
             continue
         try:
