@@ -57,8 +57,8 @@ static void measure(uint32_t k)
     const int64_t N = INT64_C(1) << (4 * k + 4);
     error below = {0, 1}, above = {0, 1}, limit = {0, 1};
     uint64_t exact = 0, nearest = 0, sum = 0;
-    uint64_t R = 0, from = 0, to = 0;  /* R is nearest for the X between these two, in parts */
-    uint64_t length = 0, edges = 0;    /* of such X, in parts; it is off by less than one for each edge */
+    uint64_t R = 0, from = 0, to = 0; /* R is nearest for the X between these two, in parts */
+    uint64_t length = 0, edges = 0;   /* of the line of such X, in parts; it is off by less than one for each edge */
 
     build(k);
     for (uint64_t t = first; t < 2 * first; t++) {
@@ -92,9 +92,9 @@ static void measure(uint32_t k)
 
 static void sweep(uint32_t k)
 {
+    build(k); /* it turns a k back for which there is nothing below */
     const uint64_t first = UINT64_C(1) << (2 * k + 3);
 
-    build(k);
     for (uint32_t j = 0; j <= UINT32_C(1) << k; j++) {
         yildegga_node_read node = yildegga_node(k, image, sizeof image, j);
         served(node.number);

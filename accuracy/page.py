@@ -1,5 +1,4 @@
 """The tables of docs/ACCURACY.md, and the page with them in their place."""
-import pathlib
 from decimal import Decimal, localcontext
 from fractions import Fraction
 
@@ -54,13 +53,13 @@ def tables():
     shares = [[row.k, row.operands, percent(*measuring.share(row)), "around 80" if row.k in AROUND_80 else "–", compensated(row.k),
                percent(*[Fraction(row.nearest, row.operands)] * 2)] for row in rows]
     return ("Errors in ulps:\n\n"
-            + table(["k", "largest below", "largest above, at cut operands", "largest above, approached", "Lemma 7", "mean"], errors)
+            + table(["k", "largest below", "largest above, at cut operands", "largest above, approached", "document 002, Lemma 7", "mean error"], errors)
             + "\nNearest results in percent:\n\n"
-            + table(["k", "cut operands", "of all operands", "document 002", "compensated, Table 4", "of cut operands"], shares))
+            + table(["k", "cut operands", "of all operands", "document 002, section 4", "document 002, Table 4", "of cut operands"], shares))
 
 
 def page(text):
     """The page with the tables as they are measured now."""
     before, rest = text.split(BEGIN)
     after = rest.split(END)[1]
-    return before + BEGIN + tables() + END + after
+    return before + BEGIN + "\n" + tables() + "\n" + END + after
