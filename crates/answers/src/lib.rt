@@ -25,3 +25,10 @@ pub struct ReciprocalGiven {
     pub place: u64,
     pub value: Ulps,
 }
+
+// Where a part of the caller's image stands: `count` bytes from byte `offset` on.
+#[repr(C)]
+pub struct Part {
+    pub offset: usize,
+    pub count: usize,
+}

@@ -2,3 +2,4 @@ pub mod Judging
 pub mod Laws
 pub mod Limits
 pub mod Lowest
+pub mod Shown

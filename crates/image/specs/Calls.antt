@@ -54,3 +54,7 @@ shownPart k s j = cond (isHidden k s j) [] (wordPart k s j)
 -- the byte of the buffer at which that part stands; an empty part stands at the front
 abbrev pub shownFrom : ℕ → List ℕ → ℕ → ℕ
 shownFrom k s j = cond (isHidden k s j) 0 (firstByte (wordWidth k) j)
+
+-- how many bytes it has
+abbrev pub shownCount : ℕ → List ℕ → ℕ → ℕ
+shownCount k s j = length (shownPart k s j)

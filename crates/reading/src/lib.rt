@@ -1,10 +1,10 @@
 // Reading an image: the value of one node, and the bytes that hold one word.
 ghost use mathlib.Core.Path.{_≡_};
-ghost use mathlib.Core.List.{[]};
 ghost use Prim.Native.Nat.{_+_};
-ghost use Rattle.answers.specs.Answer.{nodeRead};
-ghost use Rattle.image.specs.Calls.{nodeOutcome, shownPart, shownFrom};
+ghost use Rattle.answers.specs.Answer.{nodeRead, part};
+ghost use Rattle.image.specs.Calls.{nodeOutcome, shownPart, shownFrom, shownCount};
 use answers::NodeRead;
+use answers::Part;
 use precision::Precision;
 use units::TableUnits;
 
@@ -44,13 +44,32 @@ pub fn node(k: Precision, image: &[u8], j: u32) -> NodeRead
     }
 }
 
-// An empty part, at the front of the image.
-fn no_bytes(image: &[u8]) -> &[u8]
-    ensures { λ r. ⌜ now r ≡ [] ⌝ }
-    ensures { λ r. ⌜ r .ptr .0 ≡ image .entry .ptr .0 ⌝ }
-    ensures { λ r. ⌜ r .ptr .1 ≡ image .entry .ptr .1 ⌝ }
+// Where in the image the bytes stand that hold the word of node j; none, at the front, where there is no such word. The word is not judged.
+pub fn word_part(k: Precision, image: &[u8], j: u32) -> Part
+    ensures { λ r. ⌜ r ≡ part (shownFrom (k .0) (now (image .entry)) j) (shownCount (k .0) (now (image .entry)) j) ⌝ }
 {
-    &image[..0]
+    let number = image::broken_limit(k, image.len());
+    if number != 0 {
+        return Part {
+            offset: 0,
+            count: 0,
+        };
+    }
+    let count = k.word_count();
+    if count <= j {
+        return Part {
+            offset: 0,
+            count: 0,
+        };
+    }
+    let width = k.word_width();
+    let bit = (j as u64) * width;
+    let first = (bit / 8) as usize;
+    let past = ((bit + width + 7) / 8) as usize;
+    Part {
+        offset: first,
+        count: past - first,
+    }
 }
 
 // The bytes of the image that hold the word of node j, or an empty part. The word is not judged. The promise has the bytes, and where in the
@@ -60,17 +79,8 @@ pub fn word_bytes(k: Precision, image: &[u8], j: u32) -> &[u8]
     ensures { λ r. ⌜ r .ptr .0 ≡ image .entry .ptr .0 ⌝ }
     ensures { λ r. ⌜ r .ptr .1 ≡ shownFrom (k .0) (now (image .entry)) j + image .entry .ptr .1 ⌝ }
 {
-    let number = image::broken_limit(k, image.len());
-    if number != 0 {
-        return no_bytes(image);
-    }
-    let count = k.word_count();
-    if count <= j {
-        return no_bytes(image);
-    }
-    let width = k.word_width();
-    let bit = (j as u64) * width;
-    let first = (bit / 8) as usize;
-    let past = ((bit + width + 7) / 8) as usize;
+    let part = word_part(k, image, j);
+    let first = part.offset;
+    let past = first + part.count;
     &image[first..past]
 }

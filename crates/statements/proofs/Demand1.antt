@@ -30,7 +30,7 @@ use Rattle.statements.proofs.Built.{left-as-found, built-rest, built-as
 use Rattle.statements.proofs.Nodes.{served-decodes}
 use Rattle.statements.proofs.Numbers.{alone, refuses-1, refuses-2, later-number, first-wrong, node-number-3, node-number-6, node-number-0, node-place}
 use Rattle.statements.proofs.Reciprocals
-use Rattle.statements.proofs.Parts.{shown-empty, shown-length, shown-from, shown-bytes}
+use Rattle.statements.proofs.Parts.{shown-empty, shown-length, shown-first, shown-bytes}
 
 -- The builder.
 module _ (k : ℕ) (s : List ℕ) where
@@ -212,7 +212,7 @@ module _ (k : ℕ) (s : List ℕ) (j : ℕ) where
   part-length = shown-length k s j
 
   pub part-from : IsPrecision k → IsLongEnough k s → j < 2 ^ k → shownFrom k s j ≡ j * (2 * k + 2) / 8
-  part-from = shown-from k s j
+  part-from = shown-first k s j
 
   pub part-bytes : IsPrecision k → IsLongEnough k s → j < 2 ^ k → (i : ℕ) → i < length (shownPart k s j) → getD (shownPart k s j) i 0 ≡ getD s (j * (2 * k + 2) / 8 + i) 0
   part-bytes = shown-bytes k s j

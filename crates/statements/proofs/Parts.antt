@@ -6,40 +6,33 @@ use mathlib.Core.Bool.{Bool, true, false, cond, not, _||_}
 use mathlib.Core.List.{List, []}
 use Prim.Native.Nat.{ℕ, _+_, _-_, _^_, _<_}
 use native.Mathlib.Omega.{arith}
-use lib.ListN.{length, drop, getD, length-take, length-drop}
+use lib.ListN.{length, drop, getD}
 use lib.Seq.{getD-take, getD-drop}
 use lib.Dec.{ltb}
-use borrow.Author.Tests.{lt-ltb, ltb-true}
-use Rattle.precision.specs.Precision.{wordCount, wordWidth}
+use borrow.Author.Tests.{ltb-true}
+use Rattle.precision.specs.Precision.{wordWidth}
 use Rattle.packing.specs.Packing.{firstByte, lastByte, spanBytes}
-use Rattle.packing.proofs.Words.{span-within, span-ordered}
+use Rattle.packing.proofs.Words.{span-ordered}
 use Rattle.image.specs.Image.{wordPart}
 use Rattle.image.specs.Calls.{noImage, shownPart, shownFrom}
-use Rattle.image.proofs.Laws.{byte-count}
-use Rattle.image.proofs.Limits.{limit-none, limit-image, limit-kept, image-limit}
+use Rattle.image.proofs.Limits.{ImageKept, limit-none, limit-kept, image-limit}
+use Rattle.image.proofs.Shown.{shown-part, shown-from, shown-count}
 use Rattle.statements.specs.Terms.{IsPrecision, IsLongEnough}
 
 -- the part of bytes that is shown
 module _ (k : ℕ) (s : List ℕ) (j : ℕ) where
-  shown : IsPrecision k → IsLongEnough k s → j < 2 ^ k → shownPart k s j ≡ wordPart k s j
-  shown p l h = rw (limit-image k s (limit-none k s (p .0) (p .1) l), lt-ltb j (2 ^ k) h)
+  kept : IsPrecision k → IsLongEnough k s → ImageKept k s
+  kept p l = limit-kept k s (limit-none k s (p .0) (p .1) l)
 
-  pub shown-from : IsPrecision k → IsLongEnough k s → j < 2 ^ k → shownFrom k s j ≡ firstByte (wordWidth k) j
-  shown-from p l h = rw (limit-image k s (limit-none k s (p .0) (p .1) l), lt-ltb j (2 ^ k) h)
-
-  -- its bytes lie within the buffer
-  inside : IsPrecision k → IsLongEnough k s → j < 2 ^ k → lastByte (wordWidth k) j < length s
-  inside p l h = omega (arith, span-within (wordWidth k) (wordCount k) j (omega arith) h, byte-count k (p .0))
+  pub shown-first : IsPrecision k → IsLongEnough k s → j < 2 ^ k → shownFrom k s j ≡ firstByte (wordWidth k) j
+  shown-first p l h = shown-from k s j (kept p l) h
 
   pub shown-length : IsPrecision k → IsLongEnough k s → j < 2 ^ k → length (shownPart k s j) ≡ lastByte (wordWidth k) j + 1 - firstByte (wordWidth k) j
-  shown-length p l h =
-      ap length (shown p l h)
-      ∙ length-take (spanBytes (wordWidth k) j) (drop (firstByte (wordWidth k) j) s)
-      ∙ omega (arith, length-drop (firstByte (wordWidth k) j) s, inside p l h)
+  shown-length p l h = shown-count k s j (kept p l) h
 
   pub shown-bytes : IsPrecision k → IsLongEnough k s → j < 2 ^ k → (i : ℕ) → i < length (shownPart k s j) → getD (shownPart k s j) i 0 ≡ getD s (firstByte (wordWidth k) j + i) 0
   shown-bytes p l h i m =
-      ap (λ (t : List ℕ). getD t i 0) (shown p l h)
+      ap (λ (t : List ℕ). getD t i 0) (shown-part k s j (kept p l) h)
       ∙ getD-take (spanBytes (wordWidth k) j) (drop (firstByte (wordWidth k) j) s) i 0 (omega (arith, shown-length p l h))
       ∙ getD-drop (firstByte (wordWidth k) j) s i 0
 
@@ -54,5 +47,5 @@ module _ (k : ℕ) (s : List ℕ) (j : ℕ) where
       from true b e d f = refl
       from false false e d f = refl
       from false true e d f =
-          let kept = limit-kept k s (image-limit k s e) in
-          absurd (f ((kept .low, kept .high), kept .long, ltb-true j (2 ^ k) d))
+          let ok = limit-kept k s (image-limit k s e) in
+          absurd (f ((ok .low, ok .high), ok .long, ltb-true j (2 ^ k) d))

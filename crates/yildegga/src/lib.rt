@@ -1,11 +1,12 @@
 // The library for C and Rust: its calls under one prefix, over plain numbers and lent bytes. Each has the promise of the call beneath it.
 ghost use mathlib.Core.Path.{_≡_};
-ghost use Rattle.answers.specs.Answer.{done, nodeRead, reciprocalGiven};
+ghost use Rattle.answers.specs.Answer.{done, nodeRead, reciprocalGiven, part};
 ghost use Rattle.precision.specs.Precision.{lengthOr0};
-ghost use Rattle.image.specs.Calls.{buildOutcome, buildLeaves, checkOutcome, nodeOutcome};
+ghost use Rattle.image.specs.Calls.{buildOutcome, buildLeaves, checkOutcome, nodeOutcome, shownFrom, shownCount};
 ghost use Rattle.interpolation.specs.Calls.{reciprocalOutcome};
 use answers::Done;
 use answers::NodeRead;
+use answers::Part;
 use answers::ReciprocalGiven;
 use precision::Precision;
 
@@ -40,6 +41,14 @@ pub extern "C" fn yildegga_node(k: u32, image: &[u8], j: u32) -> NodeRead
     ensures { λ r. ⌜ r ≡ nodeRead (nodeOutcome k (now (image .entry)) j) ⌝ }
 {
     reading::node(Precision(k), image, j)
+}
+
+// Where in the image the bytes stand that hold the word of node j, by the place of the first and their number.
+#[no_mangle]
+pub extern "C" fn yildegga_word_bytes(k: u32, image: &[u8], j: u32) -> Part
+    ensures { λ r. ⌜ r ≡ part (shownFrom k (now (image .entry)) j) (shownCount k (now (image .entry)) j) ⌝ }
+{
+    reading::word_part(Precision(k), image, j)
 }
 
 // The reciprocal of the operand x, which has n fraction bits.

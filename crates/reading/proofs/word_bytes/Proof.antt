@@ -1,101 +1,32 @@
--- `reading::word_bytes` meets its contract: an empty part on each refusal, and otherwise the bytes from the first to the last of word j.
+-- `reading::word_bytes` meets its contract: it takes from the image the part in which the word stands.
 -- Assumes nothing.
-use mathlib.Core.Path.{_≡_, refl, sym, _∙_, ap}
-use mathlib.Core.List.{List}
-use Prim.Native.Nat.{ℕ, _+_, _-_, _*_, _/_, _^_, _≤_, _<_}
-use native.Mathlib.Nat.{mul-le-mul}
+use mathlib.Core.Path.{_≡_, refl, ap, _∙_}
+use Prim.Native.Nat.{ℕ, _+_, _-_, _≤_}
 use native.Mathlib.Omega.{arith}
 use lib.ListN.{length, take, drop}
-use lib.Pow.{pow-mono}
 use borrow.Author.Needs.{needs}
-use borrow.Author.Tests.{lt-ltb, le-ltb}
-use Rattle.precision.specs.Precision.{wordWidth}
-use Rattle.packing.specs.Packing.{firstByte, spanBytes}
-use Rattle.image.specs.Refusals.{brokenLimit}
-use Rattle.image.proofs.Laws.{word-in-buffer}
-use Rattle.image.proofs.Limits.{ImageKept, limit-no-image, limit-kept, limit-image}
+use Rattle.answers.specs.declared.Part.{Part}
+use Rattle.image.specs.Calls.{shownFrom, shownCount}
+use Rattle.image.proofs.Shown.{shown-inside, shown-taken}
 use Rattle.reading.proofs.word_bytes.Statement.{statement}
 use Rattle.reading.proofs.word_bytes.Tie as tie
 
--- behind the test of the limits both are kept
-limit : (c : tie.Else1) → brokenLimit (c .before .before .before .args .k .0) (length (c .before .before .before .args .image .now)) ≡ 0
-limit c = sym (c .before .broken-limit .ensures) ∙ c .if1 .left
+-- where the part stands
+from : (c : tie.After-word-part) → c .word-part .result .offset ≡ shownFrom (c .before .before .args .k .0) (c .before .before .args .image .now) (c .before .before .args .j)
+from c = ap (λ (p : Part). p .offset) (c .word-part .ensures)
 
-kept : (c : tie.Else1) → ImageKept (c .before .before .before .args .k .0) (c .before .before .before .args .image .now)
-kept c = limit-kept (c .before .before .before .args .k .0) (c .before .before .before .args .image .now) (limit c)
+counted : (c : tie.After-word-part) → c .word-part .result .count ≡ shownCount (c .before .before .args .k .0) (c .before .before .args .image .now) (c .before .before .args .j)
+counted c = ap (λ (p : Part). p .count) (c .word-part .ensures)
 
--- the number of words is 2^k
-counted : (c : tie.After-word-count) → c .word-count .result ≡ 2 ^ c .before .before .before .before .args .k .0
-counted c = c .word-count .ensures ∙ kept (c .before) .words
+-- and that it lies within the image
+inside : (c : tie.After-word-part) → c .word-part .result .offset + c .word-part .result .count ≤ length (c .before .before .args .image .now)
+inside c = omega (arith, from c, counted c, shown-inside (c .before .before .args .k .0) (c .before .before .args .image .now) (c .before .before .args .j))
 
--- how many bytes are shown
-span : (k j : ℕ) → (j * (2 * k + 2) + (2 * k + 2) + 7) / 8 - j * (2 * k + 2) / 8 ≡ spanBytes (wordWidth k) j
-span k j = omega arith
-
--- what is known of word j where its bytes are shown
-record There (k : ℕ) (s : List ℕ) (j width : ℕ) : Type 0 where
-  below : j < 2 ^ k
-  narrow : width ≡ 2 * k + 2
-  bits : j * width ≤ 4096 * 26
-  inside : j * width + width ≤ 8 * length s
-
-there : (c : tie.After-word-width) → There (c .before .before .before .before .before .before .args .k .0) (c .before .before .before .before .before .before .args .image .now) (c .before .before .before .before .before .before .args .j) (c .word-width .result)
-there c =
-    let k = c .before .before .before .before .before .before .args .k .0 in
-    let s = c .before .before .before .before .before .before .args .image .now in
-    let j = c .before .before .before .before .before .before .args .j in
-    let ok = kept (c .before .before .before) in
-    let l : j < 2 ^ k = omega (arith, counted (c .before .before), c .before .if2 .left) in
-    let m : j ≤ 4096 = omega (arith, pow-mono (ok .high)) in
-    let n : 2 * k + 2 ≤ 26 = omega (arith, ok .high) in
-    record {
-      below = l;
-      narrow = c .word-width .ensures;
-      bits = rw (c .word-width .ensures) (mul-le-mul m n);
-      inside = rw (c .word-width .ensures) (word-in-buffer k (ok .low) s j (ok .long) l);
-    }
-
-broken-limit-requires : tie.Need-broken-limit-requires
-broken-limit-requires c κs = search needs
-
-no-bytes-requires : tie.Need-no-bytes-requires
-no-bytes-requires c κs = search needs
-
-returns : tie.Need-returns
-returns c =
-    let k = c .before .before .before .before .args .k .0 in
-    let s = c .before .before .before .before .args .image .now in
-    let hidden = limit-no-image k s (λ e. omega (arith, c .before .if1 .taken, c .before .before .broken-limit .ensures, e)) in
-    (rw hidden (c .no-bytes .ensures .0), (c .no-bytes .ensures .1 .0, rw hidden (omega (arith, c .no-bytes .ensures .1 .1))))
-
-word-count-requires : tie.Need-word-count-requires
-word-count-requires c κs = search needs
-
-no-bytes-requires-2 : tie.Need-no-bytes-requires-2
-no-bytes-requires-2 c κs = search needs
-
-returns-2 : tie.Need-returns-2
-returns-2 c =
-    let at = c .before .before .before in
-    let k = at .before .before .before .args .k .0 in
-    let s = at .before .before .before .args .image .now in
-    let j = at .before .before .before .args .j in
-    let past = le-ltb j (2 ^ k) (omega (arith, counted (c .before .before), c .before .if2 .taken)) in (
-      rw (limit-image k s (limit at), past) (c .no-bytes2 .ensures .0),
-      (c .no-bytes2 .ensures .1 .0, rw (limit-image k s (limit at), past) (omega (arith, c .no-bytes2 .ensures .1 .1))),
-    )
-
-word-width-requires : tie.Need-word-width-requires
-word-width-requires c κs = search needs
-
-mul-bit : tie.Need-mul-bit
-mul-bit c = let t = there c in omega (arith, t .narrow, t .bits)
+word-part-requires : tie.Need-word-part-requires
+word-part-requires c κs = search needs
 
 add-past : tie.Need-add-past
-add-past c = let t = there c in omega (arith, t .narrow, t .bits)
-
-add-past-2 : tie.Need-add-past-2
-add-past-2 c = let t = there c in omega (arith, t .narrow, t .bits)
+add-past c = omega (arith, inside (c .before))
 
 sub-result : tie.Need-sub-result
 sub-result c = search needs
@@ -104,40 +35,21 @@ part-result-start : tie.Need-part-result-start
 part-result-start c = search needs
 
 part-result-end : tie.Need-part-result-end
-part-result-end c = let t = there c in omega (arith, t .narrow, t .inside)
+part-result-end c = inside (c .before)
 
-returns-3 : tie.Need-returns-3
-returns-3 c =
-    let at = c .before .before .before .before in
-    let k = at .before .before .before .args .k .0 in
-    let s = at .before .before .before .args .image .now in
-    let j = at .before .before .before .args .j in
-    let t = there (c .before) in
-    let shown = lt-ltb j (2 ^ k) (t .below) in (
-      rw (limit-image k s (limit at), shown)
-          (ap (λ (w : ℕ). take ((j * w + w + 7) / 8 - j * w / 8) (drop (j * w / 8) s)) (t .narrow)
-          ∙ ap (λ (n : ℕ). take n (drop (firstByte (wordWidth k) j) s)) (span k j)),
-      (
-        refl,
-        rw (limit-image k s (limit at), shown) (ap (λ (w : ℕ). j * w / 8 + at .before .before .before .args .image .ptr .1) (t .narrow)),
-      ),
+returns : tie.Need-returns
+returns c =
+    let at = c .before .before in
+    let s = at .before .before .args .image .now in
+    let first = at .word-part .result .offset in
+    let span : first + at .word-part .result .count - first ≡ at .word-part .result .count = omega arith in (
+      ap (λ (n : ℕ). take n (drop first s)) (span ∙ counted at)
+          ∙ ap (λ (n : ℕ). take (shownCount (at .before .before .args .k .0) s (at .before .before .args .j)) (drop n s)) (from at)
+          ∙ shown-taken (at .before .before .args .k .0) s (at .before .before .args .j),
+      (refl, ap (λ (n : ℕ). n + at .before .before .args .image .ptr .1) (from at)),
     )
 
 pub word-bytes-spec : {M : Type 1} → statement M
 word-bytes-spec =
     tie.close
-    (tie.spec
-    broken-limit-requires
-    no-bytes-requires
-    returns
-    word-count-requires
-    no-bytes-requires-2
-    returns-2
-    word-width-requires
-    mul-bit
-    add-past
-    add-past-2
-    sub-result
-    part-result-start
-    part-result-end
-    returns-3)
+    (tie.spec word-part-requires add-past sub-result part-result-start part-result-end returns)

@@ -1,0 +1,68 @@
+-- The part of a buffer in which a word stands: it lies within the buffer, and what is taken from there is the part that is shown.
+-- Assumes nothing.
+use mathlib.Core.Path.{_≡_, refl, ap, _∙_}
+use mathlib.Core.Bool.{Bool, true, false, cond, not, _||_}
+use mathlib.Core.List.{List, [], _∷_}
+use Prim.Native.Nat.{ℕ, zero, suc, _+_, _^_, _≤_, _<_}
+use native.Mathlib.Omega.{arith}
+use lib.Dec.{ltb}
+use lib.ListN.{length, take, drop, length-take, length-drop}
+use borrow.Author.Tests.{lt-ltb, ltb-true}
+use Rattle.precision.specs.Precision.{wordCount, wordWidth}
+use Rattle.packing.specs.Packing.{firstByte, lastByte, spanBytes}
+use Rattle.packing.proofs.Words.{span-within}
+use Rattle.image.specs.Image.{wordPart}
+use Rattle.image.specs.Calls.{noImage, shownPart, shownFrom, shownCount}
+use Rattle.image.proofs.Laws.{byte-count}
+use Rattle.image.proofs.Limits.{ImageKept, limit-kept, limit-image, limit-none, image-limit}
+
+-- the length of what was taken takes the same
+take-taken : (n : ℕ) (l : List ℕ) → take (length (take n l)) l ≡ take n l
+take-taken zero l = refl
+take-taken (suc n) [] = refl
+take-taken (suc n) (x ∷ l) = ap (λ (r : List ℕ). x ∷ r) (take-taken n l)
+
+module _ (k : ℕ) (s : List ℕ) (j : ℕ) where
+  -- the bytes of a word lie within a buffer that is long enough
+  inside : ImageKept k s → j < 2 ^ k → lastByte (wordWidth k) j < length s
+  inside kept h = omega (arith, kept .long, span-within (wordWidth k) (wordCount k) j (omega arith) h, byte-count k (kept .low))
+
+  part-length : ImageKept k s → j < 2 ^ k → length (wordPart k s j) ≡ spanBytes (wordWidth k) j
+  part-length kept h =
+      length-take (spanBytes (wordWidth k) j) (drop (firstByte (wordWidth k) j) s)
+      ∙ omega (arith, length-drop (firstByte (wordWidth k) j) s, inside kept h)
+
+  -- a word that there is: its part is shown, from its first byte to its last
+  module _ (kept : ImageKept k s) (h : j < 2 ^ k) where
+    there : noImage k s ≡ false
+    there = limit-image k s (limit-none k s (kept .low) (kept .high) (kept .long))
+
+    pub shown-part : shownPart k s j ≡ wordPart k s j
+    shown-part = rw (there, lt-ltb j (2 ^ k) h)
+
+    pub shown-from : shownFrom k s j ≡ firstByte (wordWidth k) j
+    shown-from = rw (there, lt-ltb j (2 ^ k) h)
+
+    pub shown-count : shownCount k s j ≡ spanBytes (wordWidth k) j
+    shown-count = ap length shown-part ∙ part-length kept h
+
+  -- a part lies within the buffer, also one that is empty
+  pub shown-inside : shownFrom k s j + shownCount k s j ≤ length s
+  shown-inside = by (noImage k s) (ltb j (2 ^ k)) refl refl
+    where
+      by : (a b : Bool) → noImage k s ≡ a → ltb j (2 ^ k) ≡ b
+          → cond (a || not b) 0 (firstByte (wordWidth k) j) + length (cond (a || not b) [] (wordPart k s j)) ≤ length s
+      by true b e d = omega arith
+      by false false e d = omega arith
+      by false true e d =
+          let kept = limit-kept k s (image-limit k s e) in
+          let h = ltb-true j (2 ^ k) d in
+          omega (arith, part-length kept h, inside kept h)
+
+  -- and what is taken from there is what is shown
+  pub shown-taken : take (shownCount k s j) (drop (shownFrom k s j) s) ≡ shownPart k s j
+  shown-taken = by (noImage k s || not (ltb j (2 ^ k)))
+    where
+      by : (b : Bool) → take (length (cond b [] (wordPart k s j))) (drop (cond b 0 (firstByte (wordWidth k) j)) s) ≡ cond b [] (wordPart k s j)
+      by true = refl
+      by false = take-taken (spanBytes (wordWidth k) j) (drop (firstByte (wordWidth k) j) s)
