@@ -1,6 +1,7 @@
 // Whether all that is timed gives the library's answers, on images whole and damaged, on operands and on refusals.
 #include "calls.h"
 #include "given.h"
+#include "otherwise.h"
 #include "trusting.h"
 #include <stdbool.h>
 #include <stdio.h>
@@ -52,6 +53,8 @@ static void reciprocal(uint32_t k, const uint8_t *image, size_t length, uint32_t
     same(a, careful_O3_reciprocal(k, image, length, n, x), "careful_O3_reciprocal");
     same(a, bytewise_O2_reciprocal(k, image, length, n, x), "bytewise_O2_reciprocal");
     same(a, bytewise_O3_reciprocal(k, image, length, n, x), "bytewise_O3_reciprocal");
+    kept_table table = kept_bind(k, image, length);
+    same(a, kept_reciprocal(&table, n, x), "kept_reciprocal");
 }
 
 // The image that a builder leaves in a longer buffer, and the bytes after it.
@@ -93,6 +96,8 @@ int main(void)
         build(careful_O3_build, k, "careful_O3_build");
         build(bytewise_O2_build, k, "bytewise_O2_build");
         build(bytewise_O3_build, k, "bytewise_O3_build");
+        build(pairs_build, k, "pairs_build");
+        build(doubles_build, k, "doubles_build");
         check(k, image, length);
         check(k, image, length - 1);
         for (uint32_t j = 0; j <= (1u << k) + 1; j++)

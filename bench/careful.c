@@ -1,73 +1,26 @@
 // The library's algorithm with the library's checks, written for speed: both neighbours of a piece come from one reading of 8 bytes,
 // which holds them, since two words and the up to 7 bits before them make at most 59 bits.
 #include "calls.h"
-#include <string.h>
-
-static inline uint64_t load(const uint8_t *at)
-{
-    uint64_t v;
-    memcpy(&v, at, 8);
-    return __builtin_bswap64(v);
-}
+#include "reading.h"
+#include "writing.h"
 
 static inline answer refused(uint32_t number)
 {
     return (answer){number, 0, 0};
 }
 
-// The 64 bits of the image from bit number `bit` on, zeros past its end. Near the end the last 8 bytes are read and shifted; the
-// images of k = 1 and 2 are shorter than that.
-static inline uint64_t bits_from(const uint8_t *image, size_t bytes, size_t bit)
-{
-    size_t at = bit / 8;
-    if (__builtin_expect(at + 8 <= bytes, 1))
-        return load(image + at) << (bit % 8);
-    if (8 <= bytes)
-        return load(image + bytes - 8) << (bit - 8 * (bytes - 8));
-    uint64_t v = 0;
-    for (size_t b = 0; b < bytes; b++)
-        v |= (uint64_t)image[b] << (56 - 8 * b);
-    return v << bit;
-}
-
-// Whether c is numerator / i rounded up.
-static inline int right(uint64_t c, uint64_t i, uint64_t numerator)
-{
-    return c * i - numerator < i;
-}
-
-// A word of 0 stands for twice the leading one; anywhere but at node 0 that is judged wrong, as is the leading one alone.
-static inline uint64_t decoded(uint64_t word, uint64_t lead)
-{
-    return word == 0 ? 2 * lead : lead + word;
-}
-
 answer CALL(build)(uint32_t k, uint8_t *image, size_t length)
 {
     if (11 < k - 1)
         return refused(1);
-    uint32_t width = 2 * k + 2;
-    size_t bytes = ((size_t)width << k) / 8;
-    if (length < bytes)
+    uint32_t width = 2 * k + 2, count = 1u << k;
+    if (length < ((size_t)width << k) / 8)
         return refused(2);
-    uint64_t last = ((uint64_t)1 << (3 * k + 3)) - 1, mask = ((uint64_t)1 << width) - 1;
-    uint64_t waiting = 0;
-    uint32_t left = 0, count = 1u << k;
-    uint8_t *at = image;
-    for (uint32_t i = count; i < 2 * count; i++) {
-        waiting = waiting << width | ((last / i + 1) & mask);
-        left += width;
-        if (32 <= left) {
-            left -= 32;
-            uint32_t four = __builtin_bswap32((uint32_t)(waiting >> left));
-            memcpy(at, &four, 4);
-            at += 4;
-        }
-    }
-    while (8 <= left) {
-        left -= 8;
-        *at++ = (uint8_t)(waiting >> left);
-    }
+    uint64_t below = ((uint64_t)1 << (3 * k + 3)) - 1, mask = ((uint64_t)1 << width) - 1;
+    writer to = {0, 0, image};
+    for (uint32_t i = count; i < 2 * count; i++)
+        put(&to, width, (below / i + 1) & mask);
+    put_rest(&to);
     return (answer){0, 0, 0};
 }
 

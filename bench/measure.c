@@ -3,6 +3,7 @@
 #define _POSIX_C_SOURCE 200809L
 #include "calls.h"
 #include "given.h"
+#include "otherwise.h"
 #include "trusting.h"
 #include <stdio.h>
 #include <stdlib.h>
@@ -17,6 +18,7 @@ static uint32_t k, n;
 static uint64_t xs[OPERANDS];
 static uint32_t js[OPERANDS];
 static float ys[OPERANDS];
+static kept_table table;
 static volatile uint64_t sink, zero;
 
 static void give(int s, uint64_t x)
@@ -55,7 +57,7 @@ typedef long pass(void);
         sink = sum;                                           \
         return OPERANDS;                                      \
     }                                                         \
-    static long name##_in_turn(void)                          \
+    __attribute__((unused)) static long name##_in_turn(void)  \
     {                                                         \
         uint64_t none = zero, last = 0;                       \
         for (int s = 0; s < OPERANDS; s++) {                  \
@@ -92,6 +94,7 @@ NODES(careful_2_node, careful_O2_node)
 NODES(careful_3_node, careful_O3_node)
 NODES(bytewise_2_node, bytewise_O2_node)
 NODES(bytewise_3_node, bytewise_O3_node)
+PASSES(kept, answer, a.value ^ a.number, kept_reciprocal(&table, n, x))
 TRUSTED(packed, trusting_packed(k, images[k], n, x))
 TRUSTED(flat, trusting_flat(k, tables[k], n, x))
 TRUSTED(divided, trusting_divided(k, n, x))
@@ -144,6 +147,8 @@ BUILDS_ALL(careful_2, careful_O2)
 BUILDS_ALL(careful_3, careful_O3)
 BUILDS_ALL(bytewise_2, bytewise_O2)
 BUILDS_ALL(bytewise_3, bytewise_O3)
+BUILDS_ALL(pairs, pairs)
+BUILDS_ALL(doubles, doubles)
 BUILDS(library, yildegga)
 BUILDS(careful_2, careful_O2)
 CHECKS(library, yildegga)
@@ -225,8 +230,6 @@ static void reciprocals(uint32_t precision, const char *order, uint32_t fraction
     five_row("  through the bound table", 1);
     CONTEST(draw, library_in_turn, careful_2_in_turn, careful_3_in_turn, bytewise_2_in_turn, bytewise_3_in_turn);
     five_row("  in turn", 1);
-    CONTEST(draw, bound_in_turn, careful_2_in_turn, careful_3_in_turn, bytewise_2_in_turn, bytewise_3_in_turn);
-    five_row("  in turn, through the bound table", 1);
 }
 
 static void same_algorithm(void)
@@ -252,23 +255,34 @@ static void same_algorithm(void)
 
 static void instead(uint32_t precision)
 {
-    static const char *const names[] = {"library, all checks",     "C -O2, all checks",            "C, trusted packed image", "C, trusted flat table",
-                                        "64-bit division, called", "64-bit division, in the loop", "1.0f / x, called"};
+    static const char *const names[] = {"library, all checks",   "C, all checks",           "C, all checks, kept constants", "C, trusted packed image",
+                                        "C, trusted flat table", "64-bit division, called", "64-bit division, in the loop",  "1.0f / x, called"};
     struct {
         double least, ratio;
-    } alone[7];
+    } alone[MOST];
     k = precision;
     n = 63;
-    CONTEST(at_random, library, careful_2, packed, flat, divided, divided_inline, floated);
-    for (int c = 0; c < 7; c++) {
+    table = kept_bind(k, images[k], lengths[k]);
+    CONTEST(at_random, library, careful_2, kept, packed, flat, divided, divided_inline, floated);
+    for (int c = 0; c < MOST; c++) {
         alone[c].least = result[c].least;
         alone[c].ratio = result[c].ratio;
     }
-    CONTEST(at_random, library_in_turn, careful_2_in_turn, packed_in_turn, flat_in_turn, divided_in_turn, divided_inline_in_turn, floated_in_turn);
-    printf("\nWhat a user would take instead, k = %u, random operands\n\n%-32s %9s %11s   %9s %11s\n", k, "nanoseconds a call", "alone", "library:it",
-           "in turn", "library:it");
-    for (int c = 0; c < 7; c++)
+    CONTEST(at_random, library_in_turn, careful_2_in_turn, kept_in_turn, packed_in_turn, flat_in_turn, divided_in_turn, divided_inline_in_turn,
+            floated_in_turn);
+    printf("\nWhat a user would take instead, k = %u, random operands, C at -O2\n\n%-32s %9s %11s   %9s %11s\n", k, "nanoseconds a call", "alone",
+           "library:it", "in turn", "library:it");
+    for (int c = 0; c < MOST; c++)
         printf("%-32s %9.2f %11.2f   %9.2f %11.2f\n", names[c], alone[c].least, alone[c].ratio, result[c].least, result[c].ratio);
+}
+
+static void otherwise_built(void)
+{
+    static const char *const names[] = {"library", "C, a division for each node", "C, a division for two nodes", "C, a division of doubles"};
+    CONTEST(NULL, library_builds_all, careful_2_builds_all, pairs_builds_all, doubles_builds_all);
+    printf("\nBuilding all twelve images in other ways, C at -O2\n\n%-32s %9s %11s\n", "microseconds", "", "library:it");
+    for (int c = 0; c < 4; c++)
+        printf("%-32s %9.2f %11.2f\n", names[c], result[c].least * 1e-3, result[c].ratio);
 }
 
 static void growth(void)
@@ -301,6 +315,7 @@ int main(void)
     same_algorithm();
     instead(8);
     instead(12);
+    otherwise_built();
     growth();
     return 0;
 }
