@@ -28,7 +28,7 @@ use Rattle.image.proofs.Limits.{ImageKept}
 -- word j of w bits, which is 0 when judged exactly when it is not M / (first + j) rounded up, less its leading one
 module _ (s : List ℕ) (w M first lead j : ℕ) (one : 1 ≤ w) (wide : w ≤ 32) (there : j * w + w ≤ 8 * length s) (judges : (word : ℕ) → word < 2 ^ w → eqb (judged M first lead j word) 0 ≡ not (eqb word (roundedUp M (first + j) % 2 ^ w))) where
   judged-test : eqb (judgedWord s w M first lead j) 0 ≡ isWrongWord w (λ (i : ℕ). roundedUp M (first + i) % 2 ^ w) s j
-  judged-test = rw (le-leb w 32 wide, read-there w s j one (omega arith) there) (judges (wordAt w s j) (word-lt w s j))
+  judged-test = rw (le-leb w 32 wide, read-there w s j (omega arith)) (judges (wordAt w s j) (word-lt w s j))
 
   pub word-0 : judgedWord s w M first lead j ≡ 0 → isWrongWord w (λ (i : ℕ). roundedUp M (first + i) % 2 ^ w) s j ≡ true
   word-0 e = sym judged-test ∙ eq-eqb (judgedWord s w M first lead j) 0 e
@@ -73,7 +73,7 @@ module _ (k : ℕ) (s : List ℕ) (j : ℕ) (kept : ImageKept k s) where
     judged-value : isWrong k s j ≡ false → wordAtNode k s j ≡ nodeOf k s j
     judged-value e =
         let right = not-false (isRight k j (wordOf k s j)) e in
-        rw (le-leb (wordWidth k) 32 small, read-there (wordWidth k) s j (omega arith) (omega (arith, small)) inside)
+        rw (le-leb (wordWidth k) 32 small, read-there (wordWidth k) s j (omega (arith, small)))
         (judged-at k top j (wordOf k s j) h (word-lt (wordWidth k) s j) ∙ rw right (sym (decode-right k j (wordOf k s j) h right)))
 
     pub word-wrong : wordAtNode k s j ≡ 0 → wordRefusal k s j .applies ≡ true

@@ -7,14 +7,14 @@ use native.Mathlib.Nat.{mul-one, mul-mod-left}
 use native.Mathlib.Omega.{arith}
 use lib.ListN.{getD}
 use lib.Pow.{pow-add, shl-shr, shr-shr, field, mod-mod-pow}
-use Rattle.packing.specs.Packing.{packed, byteCount, fillBits, packedBytes, bytesValue, Bytes, firstByte, spanBytes, bitsBehind, wordAt, bitAt, bitOfWord}
+use Rattle.packing.specs.Packing.{packed, byteCount, fillBits, packedBytes, bytesValue, Bytes, firstByte, spanBytes, bitsBehind, fieldAt, wordAt, bitAt, bitOfWord}
 use Rattle.packing.proofs.Bytes.{bytes-append}
 use Rattle.packing.proofs.Words.{word-is-digit}
 use Rattle.packing.proofs.Image.{bytes-packedBytes, value-packedBytes, packed-word}
 
 -- a word of width 1 is a bit
 pub word-one : (s : List ℕ) (i : ℕ) → wordAt 1 s i ≡ bitAt s i
-unfolding wordAt
+unfolding wordAt fieldAt
 word-one s i =
     ap₂ (λ (x y : ℕ). bytesValue s (firstByte 1 i) x / 2 ^ y % 2) span behind
     ∙ ap (λ (x : ℕ). x / 2 ^ (7 - i % 8) % 2) (drop0 (getD s (firstByte 1 i + 0) 0) ∙ ap (λ (x : ℕ). getD s x 0) first)

@@ -3,7 +3,7 @@
 use Prim.Native.Nat.{ℕ, zero, suc, _+_, _-_, _*_, _/_, _%_, _^_, _≤_, _<_}
 use mathlib.Core.Path.{_≡_, refl, sym, ap, ap₂, _∙_, subst}
 use mathlib.Core.List.{List, [], _∷_, _++_, append-assoc}
-use native.Mathlib.Nat.{le-trans, le-suc, zero-add, mul-comm, mul-suc, mod-eq-of-lt, mod-one}
+use native.Mathlib.Nat.{add-zero, le-trans, le-suc, zero-add, mul-comm, mul-suc, mod-eq-of-lt, mod-one}
 use native.Mathlib.Numerals.{add-one}
 use native.Mathlib.Omega.{arith}
 use lib.ListN.{getD, length, take, length-append}
@@ -61,21 +61,15 @@ toBytes-value (suc n) s hs h =
     ∙ ap₂ (λ (x : List ℕ) (y : ℕ). x ++ (y ∷ [])) (toBytes-value n s hs (le-trans (le-suc n) h)) (ap (λ (i : ℕ). getD s i 0) (zero-add n))
     ∙ sym (take-suc s n 0 h)
 
--- the next byte goes to the end of the number
-pub value-step : (s : List ℕ) (a e : ℕ) → a ≤ e → bytesValue s a (e + 1 - a) ≡ bytesValue s a (e - a) * 256 + getD s e 0
-value-step s a e h =
-    ap (bytesValue s a) more ∙ ap (λ (x : ℕ). bytesValue s a (e - a) * 256 + getD s x 0) there
-  where
-    more : e + 1 - a ≡ suc (e - a)
-    more = omega arith
+-- eight bytes at once
+spread : (a b c d e f g h : ℕ)
+    → a * 72057594037927936 + b * 281474976710656 + (c * 1099511627776 + d * 4294967296) + (e * 16777216 + f * 65536 + (g * 256 + h))
+    ≡ (((((((0 + a) * 256 + b) * 256 + c) * 256 + d) * 256 + e) * 256 + f) * 256 + g) * 256 + h
+spread a b c d e f g h = omega arith
 
-    there : a + (e - a) ≡ e
-    there = omega arith
-
--- and gives it 8 bits more
-pub value-step-lt : (v b a e : ℕ) → a ≤ e → v < 2 ^ (8 * (e - a)) → b < 256 → v * 256 + b < 2 ^ (8 * (e + 1 - a))
-value-step-lt v b a e h hv hb =
-    subst (λ (x : ℕ). v * 256 + b < x) (sym (pow-add 2 (8 * (e - a)) 8) ∙ ap (λ (x : ℕ). 2 ^ x) more) (digits-lt hv hb)
-  where
-    more : 8 * (e - a) + 8 ≡ 8 * (e + 1 - a)
-    more = omega arith
+pub value-eight : (s : List ℕ) (at a b c d e f g h : ℕ)
+    → a ≡ getD s at 0 → b ≡ getD s (at + 1) 0 → c ≡ getD s (at + 2) 0 → d ≡ getD s (at + 3) 0
+    → e ≡ getD s (at + 4) 0 → f ≡ getD s (at + 5) 0 → g ≡ getD s (at + 6) 0 → h ≡ getD s (at + 7) 0
+    → a * 72057594037927936 + b * 281474976710656 + (c * 1099511627776 + d * 4294967296) + (e * 16777216 + f * 65536 + (g * 256 + h)) ≡ bytesValue s at 8
+value-eight s at a b c d e f g h pa pb pc pd pe pf pg ph =
+    spread a b c d e f g h ∙ rw (pa, pb, pc, pd, pe, pf, pg, ph, add-zero)

@@ -4,4 +4,5 @@ pub mod Giving
 pub mod Image
 pub mod Numbers
 pub mod Reading
+pub mod Fields
 pub mod Words

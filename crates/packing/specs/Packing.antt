@@ -2,9 +2,9 @@
 -- Assumes nothing.
 use Prim.Native.Nat.{ℕ, zero, suc, _+_, _-_, _*_, _/_, _%_, _^_, _<_}
 use mathlib.Core.List.{List, [], _∷_, _++_}
-use mathlib.Core.Bool.{Bool, cond, _&&_}
+use mathlib.Core.Bool.{cond}
 use lib.Dec.{leb}
-use lib.ListN.{getD, length}
+use lib.ListN.{getD}
 
 -- the number that the first n words of w bits make, written one after the other
 abbrev pub packed : ℕ → (ℕ → ℕ) → ℕ → ℕ
@@ -51,9 +51,14 @@ spanBytes w j = lastByte w j + 1 - firstByte w j
 abbrev pub bitsBehind : ℕ → ℕ → ℕ
 bitsBehind w j = 8 * (lastByte w j + 1) - (j * w + w)
 
--- the word at j of any byte list: what its bytes hold less the bits behind it and before it; bytes past the end count as 0
+-- the number that the w bits from bit b on of any byte list make, the most significant bit of byte 0 being bit 0: what the bytes from
+-- the first to the last of them hold, less the bits behind them and before them; bytes past the end count as 0
+unfoldable pub fieldAt : List ℕ → ℕ → ℕ → ℕ
+fieldAt s b w = bytesValue s (b / 8) ((b + w - 1) / 8 + 1 - b / 8) / 2 ^ (8 * ((b + w - 1) / 8 + 1) - (b + w)) % 2 ^ w
+
+-- the word at j: the w bits from bit j × w on
 unfoldable pub wordAt : ℕ → List ℕ → ℕ → ℕ
-wordAt w s j = bytesValue s (firstByte w j) (spanBytes w j) / 2 ^ bitsBehind w j % 2 ^ w
+wordAt w s j = fieldAt s (j * w) w
 
 -- bit i of a byte list, the most significant bit of byte 0 being bit 0
 abbrev pub bitAt : List ℕ → ℕ → ℕ
@@ -63,14 +68,14 @@ bitAt s i = getD s (i / 8) 0 / 2 ^ (7 - i % 8) % 2
 abbrev pub bitOfWord : ℕ → ℕ → ℕ → ℕ
 bitOfWord w v b = v / 2 ^ (w - 1 - b) % 2
 
--- the widest word that is read in one piece: with up to 7 bits before it, it lies within 8 bytes
+-- the most bits that are read at once: with up to 7 bits before them they lie within 8 bytes
 abbrev pub widest : ℕ
 widest = 57
 
--- word j can be read: its width is from 1 to the widest, and its bits lie within the bytes
-abbrev pub isReadable : ℕ → List ℕ → ℕ → Bool
-isReadable w s j = leb 1 w && leb w widest && leb (j * w + w) (8 * length s)
+-- the w bits from bit b on, and 0 where they are too many to be read at once
+abbrev pub fieldRead : List ℕ → ℕ → ℕ → ℕ
+fieldRead s b w = cond (leb w widest) (fieldAt s b w) 0
 
--- the word at j, and 0 where it cannot be read
+-- the word at j, and 0 where it is too wide
 abbrev pub wordRead : ℕ → List ℕ → ℕ → ℕ
-wordRead w s j = cond (isReadable w s j) (wordAt w s j) 0
+wordRead w s j = fieldRead s (j * w) w

@@ -1,45 +1,74 @@
 // Words of any width packed into bytes, and read back one at a time.
 ghost use mathlib.Core.Path.{_≡_};
-ghost use Prim.Native.Nat.{_-_, _≤_};
-ghost use lib.ListN.{length};
-ghost use Rattle.packing.specs.Packing.{bytesValue, wordRead, widest};
+ghost use Prim.Native.Nat.{_+_, _^_, _≤_, _<_};
+ghost use lib.ListN.{length, getD};
+ghost use Rattle.packing.specs.Packing.{bytesValue, fieldRead, wordRead, widest};
 
-// The widest word that is read: with up to 7 bits before it, it lies within 8 bytes.
+// The most bits that are read at once: with up to 7 bits before them they lie within 8 bytes.
 pub const WIDEST: u32 = 57;
 
-// The number that the bytes from first up to past make, most significant first.
-fn gather(s: &[u8], first: usize, past: usize) -> u64
-    requires { ⌜ (first ≤ past) × (past ≤ length (now s)) × (past - first ≤ 8) ⌝ }
-    ensures { λ r. ⌜ r ≡ bytesValue (now (s .entry)) first (past - first) ⌝ }
+// A byte as a number.
+fn byte(s: &[u8], at: usize) -> u64
+    requires { ⌜ at < length (now s) ⌝ }
+    ensures { λ r. ⌜ (r ≡ getD (now (s .entry)) at 0) × (r < 256) ⌝ }
 {
-    let mut value: u64 = 0;
-    let mut at = first;
-    while at < past {
-        value = value * 256 + s[at] as u64;
-        at += 1;
-    }
-    value
+    s[at] as u64
 }
 
-// The word at j of a list of words of `width` bits, 0 where the width is 0 or above WIDEST or the word reaches past the bytes.
-pub fn word(s: &[u8], width: u32, j: u32) -> u64
-    ensures { λ r. ⌜ r ≡ wordRead width (now (s .entry)) j ⌝ }
+// A byte as a number, 0 past the end.
+fn byte_or_0(s: &[u8], at: usize) -> u64
+    ensures { λ r. ⌜ (r ≡ getD (now (s .entry)) at 0) × (r < 256) ⌝ }
+{
+    if at < s.len() {
+        return byte(s, at);
+    }
+    0
+}
+
+// Eight bytes as one number, most significant first. The compiler makes one reading of this where all of them are there: in pairs, since it
+// looks no deeper than that for sums without carry.
+fn eight(s: &[u8], at: usize) -> u64
+    requires { ⌜ at + 8 ≤ length (now s) ⌝ }
+    ensures { λ r. ⌜ r ≡ bytesValue (now (s .entry)) at 8 ⌝ }
+{
+    let ab = byte(s, at) * 72057594037927936 + byte(s, at + 1) * 281474976710656;
+    let cd = byte(s, at + 2) * 1099511627776 + byte(s, at + 3) * 4294967296;
+    let ef = byte(s, at + 4) * 16777216 + byte(s, at + 5) * 65536;
+    let gh = byte(s, at + 6) * 256 + byte(s, at + 7);
+    (ab + cd) + (ef + gh)
+}
+
+// The same near the end of the bytes: those past it count as 0.
+fn eight_or_0(s: &[u8], at: usize) -> u64
+    requires { ⌜ at + 8 < 2 ^ 64 ⌝ }
+    ensures { λ r. ⌜ r ≡ bytesValue (now (s .entry)) at 8 ⌝ }
+{
+    let ab = byte_or_0(s, at) * 72057594037927936 + byte_or_0(s, at + 1) * 281474976710656;
+    let cd = byte_or_0(s, at + 2) * 1099511627776 + byte_or_0(s, at + 3) * 4294967296;
+    let ef = byte_or_0(s, at + 4) * 16777216 + byte_or_0(s, at + 5) * 65536;
+    let gh = byte_or_0(s, at + 6) * 256 + byte_or_0(s, at + 7);
+    (ab + cd) + (ef + gh)
+}
+
+// The number that the `width` bits from bit `from` on make, 0 where they are more than WIDEST. Bytes past the end count as 0.
+pub fn field(s: &[u8], from: u64, width: u32) -> u64
+    ensures { λ r. ⌜ r ≡ fieldRead (now (s .entry)) from width ⌝ }
     ensures { λ r. do ⌜ (← ⟦WIDEST⟧ .entry) ≡ widest ⌝ }
 {
-    if width == 0 {
-        return 0;
-    }
     if WIDEST < width {
         return 0;
     }
-    let bit = (j as u64) * (width as u64);
-    let end = bit + width as u64;
-    let past = (end + 7) / 8;
-    if (s.len() as u64) < past {
-        return 0;
+    let first = (from / 8) as usize;
+    let before = from % 8;
+    if first + 8 <= s.len() {
+        return bits::high(eight(s, first) << before, 64 - width);
     }
-    let first = bit / 8;
-    let behind = 8 * past - end;
-    let value = gather(s, first as usize, past as usize);
-    bits::low(bits::high(value, behind as u32), width)
+    bits::high(eight_or_0(s, first) << before, 64 - width)
+}
+
+// The word at j of a list of words of `width` bits, 0 where the width is above WIDEST.
+pub fn word(s: &[u8], width: u32, j: u32) -> u64
+    ensures { λ r. ⌜ r ≡ wordRead width (now (s .entry)) j ⌝ }
+{
+    field(s, (j as u64) * (width as u64), width)
 }

@@ -21,7 +21,7 @@ cast-judge : tie.Need-cast-judge
 cast-judge c =
     let a = c .before .before .before .args in
     let top : a .width ≤ 32 = omega (arith, c .before .if1 .left) in
-    omega (arith, c .word .ensures .0, read-lt (a .width) (a .image .now) (a .j), pow-mono top)
+    omega (arith, c .word .ensures, read-lt (a .width) (a .image .now) (a .j), pow-mono top)
 
 judge-requires : tie.Need-judge-requires
 judge-requires c κs = search needs
@@ -30,7 +30,7 @@ returns-2 : tie.Need-returns-2
 returns-2 c =
     let a = c .before .before .before .before .args in
     rw (le-leb (a .width) 32 (omega (arith, c .before .before .if1 .left)))
-    (c .judge .ensures ∙ ap (judged (a .numerator) (a .first) (a .lead) (a .j)) (c .before .word .ensures .0))
+    (c .judge .ensures ∙ ap (judged (a .numerator) (a .first) (a .lead) (a .j)) (c .before .word .ensures))
 
 pub judged-word-spec : {M : Type 1} → statement M
 judged-word-spec = tie.close (tie.spec returns word-requires cast-judge judge-requires returns-2)
