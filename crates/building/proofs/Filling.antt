@@ -13,7 +13,7 @@ use lib.Pow.{pow-add, pow-mono, pow-pos}
 use lib.Seq.{set-at, drop-cons}
 use Rattle.packing.specs.Packing.{packed, toBytes, byteCount, fillBits, packedBytes}
 use Rattle.packing.proofs.Bytes.{length-toBytes}
-use Rattle.packing.proofs.Giving.{take-high, take-low, give-byte, give-small, give-rest, give-last, last-small}
+use Rattle.packing.proofs.Giving.{take-high, take-low, give-byte, give-high, give-rest, give-last, last-small}
 
 -- of n words, j are taken in: `at` bytes of them are written over the buffer's first list, and `left` bits wait
 pub record Filling (w n : ℕ) (f : ℕ → ℕ) (before now : List ℕ) (waiting left at j : ℕ) : Type 0 where
@@ -21,7 +21,7 @@ pub record Filling (w n : ℕ) (f : ℕ → ℕ) (before now : List ℕ) (waitin
   pub room : byteCount w n ≤ length before
   pub place : 8 * at + left ≡ j * w
   pub short : left < 8 + w
-  pub bits : waiting ≡ packed w f j % 2 ^ left
+  pub bits : waiting % 2 ^ left ≡ packed w f j % 2 ^ left
   pub bytes : now ≡ toBytes at (packed w f j / 2 ^ left) ++ drop at before
 
 -- at first nothing is taken in
@@ -52,34 +52,30 @@ module _ {w n : ℕ} {f : ℕ → ℕ} {before now : List ℕ} {waiting left at 
       ∙ length-append (toBytes at (packed w f j / 2 ^ left)) (drop at before)
       ∙ omega (arith, length-toBytes at (packed w f j / 2 ^ left), length-drop at before, within)
 
-  -- what waits has its bits and no more
-  waits : waiting < 2 ^ left
-  waits = rw (s .bits) (mod-lt (packed w f j) (pow-pos left))
-
   -- a word behind what waits has a place in 64 bits
-  pub joined-fits : (v m : ℕ) → v < 2 ^ m → left + m ≤ 64 → waiting * 2 ^ m + v < 2 ^ 64
-  joined-fits v m h b = lt-of-lt-of-le (rw (pow-add 2 left m) (digits-lt waits h)) (pow-mono b)
+  pub joined-fits : (v m : ℕ) → v < 2 ^ m → left + m ≤ 64 → waiting % 2 ^ left * 2 ^ m + v < 2 ^ 64
+  joined-fits v m h b = lt-of-lt-of-le (rw (pow-add 2 left m) (digits-lt (mod-lt waiting (pow-pos left)) h)) (pow-mono b)
 
   -- whole bytes are given out from the front of what waits
-  pub give : 8 ≤ left → Filling w n f before (set now at (waiting / 2 ^ (left - 8) % 256)) (waiting % 2 ^ (left - 8)) (left - 8) (at + 1) j
+  pub give : 8 ≤ left → Filling w n f before (set now at (waiting / 2 ^ (left - 8) % 256)) waiting (left - 8) (at + 1) j
   give h =
       record {
         taken = s .taken;
         room = s .room;
         place = omega (arith, s .place);
         short = omega (arith, s .short);
-        bits = ap (λ (x : ℕ). x % 2 ^ (left - 8)) (s .bits) ∙ give-rest (packed w f j) left h;
+        bits = sym (give-rest waiting left h) ∙ ap (λ (x : ℕ). x % 2 ^ (left - 8)) (s .bits) ∙ give-rest (packed w f j) left h;
         bytes =
             ap (λ (l : List ℕ). set l at (waiting / 2 ^ (left - 8) % 256)) (s .bytes)
             ∙ write-next (toBytes at (packed w f j / 2 ^ left)) before at (waiting / 2 ^ (left - 8) % 256) (length-toBytes at _) (has-room h)
             ∙ ap (λ (l : List ℕ). l ++ drop (at + 1) before)
             (ap (λ (b : ℕ). toBytes at (packed w f j / 2 ^ left) ++ (b ∷ []))
-            (ap (λ (x : ℕ). x / 2 ^ (left - 8) % 256) (s .bits) ∙ mod-eq-of-lt (give-small (packed w f j) left h))
+            (give-high waiting left h ∙ ap (λ (x : ℕ). x / 2 ^ (left - 8)) (s .bits))
             ∙ sym (give-byte at (packed w f j) left h));
       }
 
   -- a word is taken in behind what waits
-  pub take : (v : ℕ) → v ≡ f j → v < 2 ^ w → left < 8 → j < n → Filling w n f before now (waiting * 2 ^ w + v) (left + w) at (j + 1)
+  pub take : (v : ℕ) → v ≡ f j → v < 2 ^ w → left < 8 → j < n → Filling w n f before now (waiting % 2 ^ left * 2 ^ w + v) (left + w) at (j + 1)
   take v e h l k =
       record {
         taken = omega arith;
@@ -87,7 +83,10 @@ module _ {w n : ℕ} {f : ℕ → ℕ} {before now : List ℕ} {waiting left at 
         place = omega (arith, s .place);
         short = omega arith;
         bits =
-            ap (λ (x : ℕ). x * 2 ^ w + v) (s .bits) ∙ sym (take-low (packed w f j) v w left h) ∙ ap (λ (x : ℕ). x % 2 ^ (left + w)) next;
+            ap (λ (x : ℕ). (x * 2 ^ w + v) % 2 ^ (left + w)) (s .bits)
+            ∙ ap (λ (x : ℕ). x % 2 ^ (left + w)) (sym (take-low (packed w f j) v w left h))
+            ∙ mod-eq-of-lt (mod-lt (packed w f j * 2 ^ w + v) (pow-pos (left + w)))
+            ∙ ap (λ (x : ℕ). x % 2 ^ (left + w)) next;
         bytes =
             s .bytes
             ∙ ap (λ (x : ℕ). toBytes at x ++ drop at before)
@@ -119,16 +118,16 @@ module _ {w n : ℕ} {f : ℕ → ℕ} {before now : List ℕ} {waiting left at 
   pub part-has-room : n ≤ j → (left ≡ 0 → ⊥) → at < length before
   part-has-room h z = omega (arith, s .place, s .room, ap (λ (x : ℕ). x * w) (all-taken h), z)
 
-  pub finish-part : n ≤ j → left < 8 → (left ≡ 0 → ⊥) → set now at ((waiting * 2 ^ (8 - left) + 0) % 256) ≡ packedBytes w f n ++ drop (byteCount w n) before
+  pub finish-part : n ≤ j → left < 8 → (left ≡ 0 → ⊥) → set now at ((waiting % 2 ^ left * 2 ^ (8 - left) + 0) % 256) ≡ packedBytes w f n ++ drop (byteCount w n) before
   finish-part h l z =
       let ends : 8 * at + left ≡ n * w = omega (arith, s .place, ap (λ (x : ℕ). x * w) (all-taken h)) in
       let fills : 8 - left ≡ fillBits w n = omega (arith, z) in
       let whole : at + 1 ≡ byteCount w n = omega (arith, z) in
-      ap (λ (m : List ℕ). set m at ((waiting * 2 ^ (8 - left) + 0) % 256)) (s .bytes)
-      ∙ write-next (toBytes at (packed w f j / 2 ^ left)) before at ((waiting * 2 ^ (8 - left) + 0) % 256) (length-toBytes at _) (part-has-room h z)
+      ap (λ (m : List ℕ). set m at ((waiting % 2 ^ left * 2 ^ (8 - left) + 0) % 256)) (s .bytes)
+      ∙ write-next (toBytes at (packed w f j / 2 ^ left)) before at ((waiting % 2 ^ left * 2 ^ (8 - left) + 0) % 256) (length-toBytes at _) (part-has-room h z)
       ∙ ap (λ (m : List ℕ). m ++ drop (at + 1) before)
       (ap (λ (b : ℕ). toBytes at (packed w f j / 2 ^ left) ++ (b ∷ []))
-      (ap (λ (x : ℕ). x % 256) (add-zero (waiting * 2 ^ (8 - left)) ∙ ap (λ (x : ℕ). x * 2 ^ (8 - left)) (s .bits))
+      (ap (λ (x : ℕ). x % 256) (add-zero (waiting % 2 ^ left * 2 ^ (8 - left)) ∙ ap (λ (x : ℕ). x * 2 ^ (8 - left)) (s .bits))
       ∙ mod-eq-of-lt (last-small (packed w f j) left l))
       ∙ sym (give-last at (packed w f j) left l)
       ∙ ap (λ (x : ℕ). toBytes (at + 1) (packed w f x * 2 ^ (8 - left))) (all-taken h)

@@ -19,7 +19,8 @@ fn joined(waiting: u64, width: u32, word: u64) -> u64
 }
 
 // Writes `count` words of `width` bits at the front of the buffer: numerator / (first + j) rounded up, its lowest bits, for each j.
-// The bits that wait for a whole byte are kept beside the buffer, which is not read.
+// The bits that wait for a whole byte are kept beside the buffer, which is not read; those above them, which are written, are dropped when
+// the next word comes.
 fn fill(image: &mut [u8], width: u32, count: u32, numerator: u64, first: u32)
     requires { ⌜ (1 ≤ width) × (width ≤ 56) × (first + count < 2 ^ 32) × (byteCount width count ≤ length (now image)) ⌝ }
     ensures { λ r. ⌜ now (image .exit) ≡ packedBytes width (λ (j : ℕ). roundedUp numerator (first + j) % 2 ^ width) count ++ drop (byteCount width count) (now (image .entry)) ⌝ }
@@ -32,11 +33,10 @@ fn fill(image: &mut [u8], width: u32, count: u32, numerator: u64, first: u32)
         if 8 <= left {
             left -= 8;
             image[at] = (bits::high(waiting, left) % 256) as u8;
-            waiting = bits::low(waiting, left);
             at += 1;
         } else if j < count {
             let word = bits::low(quotient::rounded_up(numerator, first + j), width);
-            waiting = joined(waiting, width, word);
+            waiting = joined(bits::low(waiting, left), width, word);
             left += width;
             j += 1;
         } else {
@@ -44,7 +44,7 @@ fn fill(image: &mut [u8], width: u32, count: u32, numerator: u64, first: u32)
         }
     }
     if left != 0 {
-        image[at] = (joined(waiting, 8 - left, 0) % 256) as u8;
+        image[at] = (joined(bits::low(waiting, left), 8 - left, 0) % 256) as u8;
     }
 }
 

@@ -41,8 +41,9 @@ pub fn check(k: Precision, image: &[u8]) -> Done
     }
     let count = k.word_count();
     let width = k.word_width() as u32;
+    let words = image::front(k, image);
     let place = first_wrong(
-        image,
+        words,
         width,
         count,
         nodes::numerator(k),

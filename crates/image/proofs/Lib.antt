@@ -2,4 +2,5 @@ pub mod Judging
 pub mod Laws
 pub mod Limits
 pub mod Lowest
+pub mod OwnBytes
 pub mod Shown

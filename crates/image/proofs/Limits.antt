@@ -81,6 +81,10 @@ module _ (k : ℕ) (s : List ℕ) where
   pub limit-none : 1 ≤ k → k ≤ 12 → imageLength k ≤ length s → brokenLimit k (length s) ≡ 0
   limit-none a b h = rw (range-in k a b, le-ltb (length s) (imageLength k) h)
 
+  -- and there is an image
+  pub kept-image : ImageKept k s → noImage k s ≡ false
+  kept-image ok = limit-image (limit-none (ok .low) (ok .high) (ok .long))
+
   -- where there is an image both limits are kept
   pub image-limit : noImage k s ≡ false → brokenLimit k (length s) ≡ 0
   image-limit = none-of (not (inRange k)) (ltb (length s) (imageLength k))

@@ -14,7 +14,7 @@ use Rattle.packing.proofs.Words.{span-within}
 use Rattle.image.specs.Image.{wordPart}
 use Rattle.image.specs.Calls.{noImage, shownPart, shownFrom, shownCount}
 use Rattle.image.proofs.Laws.{byte-count}
-use Rattle.image.proofs.Limits.{ImageKept, limit-kept, limit-image, limit-none, image-limit}
+use Rattle.image.proofs.Limits.{ImageKept, limit-kept, kept-image, image-limit}
 
 -- the length of what was taken takes the same
 take-taken : (n : ℕ) (l : List ℕ) → take (length (take n l)) l ≡ take n l
@@ -34,14 +34,11 @@ module _ (k : ℕ) (s : List ℕ) (j : ℕ) where
 
   -- a word that there is: its part is shown, from its first byte to its last
   module _ (kept : ImageKept k s) (h : j < 2 ^ k) where
-    there : noImage k s ≡ false
-    there = limit-image k s (limit-none k s (kept .low) (kept .high) (kept .long))
-
     pub shown-part : shownPart k s j ≡ wordPart k s j
-    shown-part = rw (there, lt-ltb j (2 ^ k) h)
+    shown-part = rw (kept-image k s kept, lt-ltb j (2 ^ k) h)
 
     pub shown-from : shownFrom k s j ≡ firstByte (wordWidth k) j
-    shown-from = rw (there, lt-ltb j (2 ^ k) h)
+    shown-from = rw (kept-image k s kept, lt-ltb j (2 ^ k) h)
 
     pub shown-count : shownCount k s j ≡ spanBytes (wordWidth k) j
     shown-count = ap length shown-part ∙ part-length kept h

@@ -4,8 +4,8 @@ use Prim.Native.Nat.{ℕ}
 use mathlib.Core.Bool.{Bool, cond, not, _||_}
 use mathlib.Core.List.{List, [], _∷_}
 use lib.Dec.{ltb, eqb}
-use lib.ListN.{length}
-use Rattle.precision.specs.Precision.{wordCount, wordWidth}
+use lib.ListN.{length, take}
+use Rattle.precision.specs.Precision.{wordCount, wordWidth, imageLength}
 use Rattle.packing.specs.Packing.{firstByte}
 use Rattle.answers.specs.Refusal.{Refusal, Outcome, outcome}
 use Rattle.image.specs.Image.{builtBuffer, nodeOf, wordPart}
@@ -42,6 +42,10 @@ nodeOutcome k s j = outcome (nodeRefusals k s j) (nodeOf k s j)
 -- refusal 1 or 2 applies
 abbrev pub noImage : ℕ → List ℕ → Bool
 noImage k s = isOutOfRange k || isTooShort k (length s)
+
+-- the image's own bytes, the front of the buffer; none where 1 or 2 applies
+abbrev pub imageFront : ℕ → List ℕ → List ℕ
+imageFront k s = cond (noImage k s) [] (take (imageLength k) s)
 
 -- no bytes are shown: 1 or 2 applies or j is above 2^k - 1
 abbrev pub isHidden : ℕ → List ℕ → ℕ → Bool

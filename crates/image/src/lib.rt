@@ -1,10 +1,21 @@
 // The image of a precision: what it is stands in specs/, and here are the limits that every call on an image tests first, and the
 // judging of a word or a node where it stands.
 ghost use mathlib.Core.Path.{_≡_};
+ghost use Prim.Native.Nat.{_≤_};
 ghost use Rattle.image.specs.Image.{judgedWord, judgedNode};
+ghost use Rattle.precision.specs.Precision.{greatest, imageLength};
 ghost use Rattle.image.specs.Refusals.{brokenLimit};
+ghost use Rattle.image.specs.Calls.{imageFront};
 use precision::Precision;
 use units::TableUnits;
+
+// The bytes of the image of a precision. They are computed and not looked up: indexing the list of lengths rebuilds it.
+fn needed(k: Precision) -> u64
+    requires { ⌜ k .0 ≤ greatest ⌝ }
+    ensures { λ r. ⌜ r ≡ imageLength (k .0) ⌝ }
+{
+    bits::power(k.0) * k.word_width() / 8
+}
 
 // The number of the limit that is broken by precision k and a buffer of `length` bytes, 1 or 2, and 0 where both are kept.
 pub fn broken_limit(k: Precision, length: usize) -> u32
@@ -13,11 +24,24 @@ pub fn broken_limit(k: Precision, length: usize) -> u32
     if !k.in_range() {
         return 1;
     }
-    let needed = bits::power(k.0) * k.word_width() / 8;
-    if (length as u64) < needed {
+    if (length as u64) < needed(k) {
         return 2;
     }
     0
+}
+
+// The image's own bytes, the front of the buffer; none where k is no precision or the buffer is too short. Calls hand down these alone, so
+// that bytes past the image are not read. The promise has the bytes, and that they stand where the buffer does.
+pub fn front(k: Precision, image: &[u8]) -> &[u8]
+    ensures { λ r. ⌜ now r ≡ imageFront (k .0) (now (image .entry)) ⌝ }
+    ensures { λ r. ⌜ r .ptr .0 ≡ image .entry .ptr .0 ⌝ }
+    ensures { λ r. ⌜ r .ptr .1 ≡ image .entry .ptr .1 ⌝ }
+{
+    if broken_limit(k, image.len()) != 0 {
+        return &image[..0];
+    }
+    let past = needed(k) as usize;
+    &image[..past]
 }
 
 // What word j of `width` bits of the image stands for, where that is numerator / (first + j) rounded up, and 0 where it is not. Words of

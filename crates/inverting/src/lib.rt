@@ -25,13 +25,14 @@ fn of_cut(k: Precision, image: &[u8], t: u64) -> ReciprocalGiven
     requires { ⌜ IsCut (k .0) (now image) t ⌝ }
     ensures { λ r. ⌜ r ≡ reciprocalGiven (cutOutcome (k .0) (now (image .entry)) t) ⌝ }
 {
+    let words = image::front(k, image);
     let count = k.word_count();
     let width = k.word_width() as u32;
     let numerator = nodes::numerator(k);
     let lead = nodes::lead(k);
     let piece = k.0 + 3;
     let j = bits::high(t, piece) as u32 - count;
-    let lower = image::judged_word(image, width, numerator, count, lead, j);
+    let lower = image::judged_word(words, width, numerator, count, lead, j);
     if lower.0 == 0 {
         return ReciprocalGiven {
             number: 6,
@@ -39,7 +40,7 @@ fn of_cut(k: Precision, image: &[u8], t: u64) -> ReciprocalGiven
             value: Ulps(0),
         };
     }
-    let upper = image::judged_node(image, width, numerator, count, lead, j + 1);
+    let upper = image::judged_node(words, width, numerator, count, lead, j + 1);
     if upper.0 == 0 {
         return ReciprocalGiven {
             number: 6,

@@ -32,12 +32,9 @@ give-byte at p left h =
     give at p (left - 8)
     ∙ ap (λ (x : ℕ). toBytes at (p / 2 ^ x) ++ ((p % 2 ^ x) / 2 ^ (left - 8) ∷ [])) (omega arith)
 
--- what is given is a byte
-pub give-small : (p left : ℕ) → 8 ≤ left → (p % 2 ^ left) / 2 ^ (left - 8) < 256
-give-small p left h =
-    subst (λ (x : ℕ). x < 256)
-    (sym (field p 8 (left - 8)) ∙ ap (λ (x : ℕ). (p % 2 ^ x) / 2 ^ (left - 8)) (omega arith))
-    (mod-lt (p / 2 ^ (left - 8)) (pow-pos 8))
+-- the same byte, of a number whose bits above those that wait are still there
+pub give-high : (p left : ℕ) → 8 ≤ left → p / 2 ^ (left - 8) % 256 ≡ (p % 2 ^ left) / 2 ^ (left - 8)
+give-high p left h = sym (field p 8 (left - 8)) ∙ ap (λ (x : ℕ). (p % 2 ^ x) / 2 ^ (left - 8)) (omega arith)
 
 -- the bits below it wait on
 pub give-rest : (p left : ℕ) → 8 ≤ left → (p % 2 ^ left) % 2 ^ (left - 8) ≡ p % 2 ^ (left - 8)

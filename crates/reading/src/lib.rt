@@ -29,7 +29,8 @@ pub fn node(k: Precision, image: &[u8], j: u32) -> NodeRead
         };
     }
     let width = k.word_width() as u32;
-    let c = image::judged_node(image, width, nodes::numerator(k), count, nodes::lead(k), j);
+    let words = image::front(k, image);
+    let c = image::judged_node(words, width, nodes::numerator(k), count, nodes::lead(k), j);
     if c.0 == 0 {
         return NodeRead {
             number: 6,

@@ -36,19 +36,15 @@ cast-image c = search needs
 slice-write-image : tie.Need-slice-write-image Inv-loop μ-loop
 slice-write-image c = omega (arith, has-room (c .before .before .loop .inv) (c .before .if1 .taken), kept (c .before .before .loop .inv))
 
-low-requires : tie.Need-low-requires Inv-loop μ-loop
-low-requires c κs = search needs
-
 add-at : tie.Need-add-at Inv-loop μ-loop
-add-at c = omega (arith, has-room (c .before .before .before .loop .inv) (c .before .before .if1 .taken))
+add-at c = omega (arith, has-room (c .before .before .loop .inv) (c .before .if1 .taken))
 
 loop-less : tie.Need-loop-less Inv-loop μ-loop
-loop-less c = omega (arith, c .before .before .if1 .taken)
+loop-less c = omega (arith, c .before .if1 .taken)
 
 loop-again : tie.Need-loop-again Inv-loop μ-loop
 loop-again c =
-    rw (c .before .high .ensures, c .low .ensures)
-    (give (c .before .before .before .loop .inv) (c .before .before .if1 .taken))
+    rw (c .high .ensures) (give (c .before .before .loop .inv) (c .before .if1 .taken))
 
 add-rounded-up : tie.Need-add-rounded-up Inv-loop μ-loop
 add-rounded-up c = search needs
@@ -56,14 +52,17 @@ add-rounded-up c = search needs
 rounded-up-requires : tie.Need-rounded-up-requires Inv-loop μ-loop
 rounded-up-requires c κs = search needs
 
+low-requires : tie.Need-low-requires Inv-loop μ-loop
+low-requires c κs = search needs
+
 low-requires-2 : tie.Need-low-requires-2 Inv-loop μ-loop
 low-requires-2 c κs = search needs
 
 joined-requires : tie.Need-joined-requires Inv-loop μ-loop
 joined-requires c κs =
-    let s = c .before .before .before .before .loop .inv in
-    let w = c .before .before .before .before .before .before .args .width in
-    (omega arith, joined-fits s (c .low2 .result) w (rw (c .low2 .ensures) (mod-lt _ (pow-pos w))) (omega arith))
+    let s = c .before .before .before .before .before .loop .inv in
+    let w = c .before .before .before .before .before .before .before .args .width in
+    (omega arith, rw (c .low2 .ensures) (joined-fits s (c .before .low .result) w (rw (c .before .low .ensures) (mod-lt _ (pow-pos w))) (omega arith)))
 
 add-left : tie.Need-add-left Inv-loop μ-loop
 add-left c = search needs
@@ -73,47 +72,51 @@ add-j c = search needs
 
 loop-less-2 : tie.Need-loop-less-2 Inv-loop μ-loop
 loop-less-2 c =
-    let n = c .before .before .before .before .before .before .before .args .count in
-    let j = c .before .before .before .before .before .loop .j in
-    let w = c .before .before .before .before .before .before .before .args .width in
+    let n = c .before .before .before .before .before .before .before .before .args .count in
+    let j = c .before .before .before .before .before .before .loop .j in
+    let w = c .before .before .before .before .before .before .before .before .args .width in
     let e : n - j ≡ (n - (j + 1)) + 1 = omega arith in
     omega (arith, ap (λ (x : ℕ). x * (w + 1)) e)
 
 loop-again-2 : tie.Need-loop-again-2 Inv-loop μ-loop
 loop-again-2 c =
-    let s = c .before .before .before .before .before .loop .inv in
-    let w = c .before .before .before .before .before .before .before .args .width in
-    rw (c .joined .ensures)
-    (take s (c .before .low2 .result)
-    (c .before .low2 .ensures ∙ ap (λ (x : ℕ). x % 2 ^ w) (c .before .before .rounded-up .ensures))
-    (rw (c .before .low2 .ensures) (mod-lt _ (pow-pos w)))
-    (c .before .before .before .before .if1 .left)
-    (c .before .before .before .if2 .taken))
+    let s = c .before .before .before .before .before .before .loop .inv in
+    let w = c .before .before .before .before .before .before .before .before .args .width in
+    let word = c .before .before .low in
+    rw (c .joined .ensures, c .before .low2 .ensures)
+    (take s (word .result)
+    (word .ensures ∙ ap (λ (x : ℕ). x % 2 ^ w) (c .before .before .before .rounded-up .ensures))
+    (rw (word .ensures) (mod-lt _ (pow-pos w)))
+    (c .before .before .before .before .before .if1 .left)
+    (c .before .before .before .before .if2 .taken))
+
+low-requires-3 : tie.Need-low-requires-3 Inv-loop μ-loop
+low-requires-3 c κs = search needs
 
 sub-joined : tie.Need-sub-joined Inv-loop μ-loop
 sub-joined c = search needs
 
 joined-requires-2 : tie.Need-joined-requires-2 Inv-loop μ-loop
 joined-requires-2 c κs =
-    let s = c .before .before .before .loop .inv in
-    let left = c .before .before .before .loop .left in
-    (omega arith, joined-fits s 0 (8 - left) (pow-pos (8 - left)) (omega arith))
+    let s = c .before .before .before .before .loop .inv in
+    let left = c .before .before .before .before .loop .left in
+    (omega arith, rw (c .low3 .ensures) (joined-fits s 0 (8 - left) (pow-pos (8 - left)) (omega arith)))
 
 cast-image-2 : tie.Need-cast-image-2 Inv-loop μ-loop
 cast-image-2 c = search needs
 
 slice-write-image-2 : tie.Need-slice-write-image-2 Inv-loop μ-loop
 slice-write-image-2 c =
-    let s = c .before .before .before .before .loop .inv in
-    omega (arith, part-has-room s (c .before .before .if2 .left) (c .before .if3 .taken), kept s)
+    let s = c .before .before .before .before .before .loop .inv in
+    omega (arith, part-has-room s (c .before .before .before .if2 .left) (c .before .before .if3 .taken), kept s)
 
 same-length : tie.Need-same-length Inv-loop μ-loop
-same-length c = simp length-set (kept (c .before .before .before .before .loop .inv))
+same-length c = simp length-set (kept (c .before .before .before .before .before .loop .inv))
 
 returns : tie.Need-returns Inv-loop μ-loop
 returns c =
-    rw (c .joined2 .ensures)
-    (finish-part (c .before .before .before .before .loop .inv) (c .before .before .if2 .left) (c .before .before .before .if1 .left) (c .before .if3 .taken))
+    rw (c .joined2 .ensures, c .before .low3 .ensures)
+    (finish-part (c .before .before .before .before .before .loop .inv) (c .before .before .before .if2 .left) (c .before .before .before .before .if1 .left) (c .before .before .if3 .taken))
 
 same-length-2 : tie.Need-same-length-2 Inv-loop μ-loop
 same-length-2 c = kept (c .before .before .before .loop .inv)
@@ -131,18 +134,19 @@ fill-spec =
     high-requires
     cast-image
     slice-write-image
-    low-requires
     add-at
     loop-less
     loop-again
     add-rounded-up
     rounded-up-requires
+    low-requires
     low-requires-2
     joined-requires
     add-left
     add-j
     loop-less-2
     loop-again-2
+    low-requires-3
     sub-joined
     joined-requires-2
     cast-image-2

@@ -8,12 +8,15 @@ use lib.ListN.{length}
 use borrow.Author.Needs.{needs}
 use borrow.Author.Tests.{lt-ltb, le-ltb}
 use Rattle.quotient.specs.Quotient.{roundedUp}
+use Rattle.nodes.specs.Nodes.{storedWord}
 use Rattle.nodes.proofs.Nodes.{judged-zero}
 use Rattle.answers.specs.Answer.{done}
 use Rattle.image.specs.Image.{firstWrongWord, firstWrong}
 use Rattle.image.specs.Refusals.{brokenLimit, imageRefusal}
+use Rattle.image.specs.Calls.{imageFront}
 use Rattle.image.proofs.Laws.{whole-bytes}
 use Rattle.image.proofs.Limits.{ImageKept, limit-refuses, limit-passes, limit-kept}
+use Rattle.image.proofs.OwnBytes.{front-kept, front-wrong}
 use Rattle.checking.specs.Words.{AreWords}
 use Rattle.checking.proofs.check.Statement.{statement}
 use Rattle.checking.proofs.check.Tie as tie
@@ -58,6 +61,9 @@ word-width-requires c κs = search needs
 cast-width : tie.Need-cast-width
 cast-width c = omega (arith, c .word-width .ensures, kept (c .before .before) .high)
 
+front-requires : tie.Need-front-requires
+front-requires c κs = search needs
+
 numerator-requires : tie.Need-numerator-requires
 numerator-requires c κs = search needs
 
@@ -66,39 +72,45 @@ lead-requires c κs = search needs
 
 first-wrong-requires : tie.Need-first-wrong-requires
 first-wrong-requires c κs =
-    let at = c .before .before .before .before in
-    let ok = kept at in
-    rw (
-      c .before .before .word-width .ensures,
-      c .before .before .before .word-count .ensures ∙ ok .words,
-      c .before .numerator .ensures ∙ ok .numerator,
-      c .lead .ensures ∙ ok .lead,
-    )
-    (are-words (at .before .before .before .args .k .0) (at .before .before .before .args .image .now) ok)
-
--- the place that is found is the lowest wrong word of the image
-found : (c : tie.After-first-wrong) → c .first-wrong .result ≡ firstWrong (c .before .before .before .before .before .before .before .before .args .k .0) (c .before .before .before .before .before .before .before .before .args .image .now)
-found c =
     let at = c .before .before .before .before .before in
     let k = at .before .before .before .args .k .0 in
     let s = at .before .before .before .args .image .now in
     let ok = kept at in
-    let count = c .before .before .before .before .word-count in
-    let made = c .before .before .numerator in
-    c .first-wrong .ensures
-    ∙ ap (λ (w : ℕ). lowestBy s w (count .result) (made .result)) (c .before .before .before .word-width .ensures)
-    ∙ ap (λ (n : ℕ). lowestBy s (2 * k + 2) n (made .result)) (count .ensures ∙ ok .words)
-    ∙ ap (lowestBy s (2 * k + 2) (2 ^ k)) (made .ensures ∙ ok .numerator)
+    rw (
+      c .before .before .front .ensures .0,
+      c .before .before .before .word-width .ensures,
+      c .before .before .before .before .word-count .ensures ∙ ok .words,
+      c .before .numerator .ensures ∙ ok .numerator,
+      c .lead .ensures ∙ ok .lead,
+    )
+    (are-words k (imageFront k s) (front-kept k s ok))
 
-cast-t11 : tie.Need-cast-t11
-cast-t11 c = search needs
-
-returns-2 : tie.Need-returns-2
-returns-2 c =
+-- the place that is found is the lowest wrong word of the image
+found : (c : tie.After-first-wrong) → c .first-wrong .result ≡ firstWrong (c .before .before .before .before .before .before .before .before .before .args .k .0) (c .before .before .before .before .before .before .before .before .before .args .image .now)
+found c =
     let at = c .before .before .before .before .before .before in
     let k = at .before .before .before .args .k .0 in
     let s = at .before .before .before .args .image .now in
-    let count = c .before .before .before .before .before .word-count .ensures ∙ kept at .words in
+    let ok = kept at in
+    let count = c .before .before .before .before .before .word-count in
+    let front = c .before .before .before .front in
+    let made = c .before .before .numerator in
+    c .first-wrong .ensures
+    ∙ ap (λ (l : List ℕ). lowestBy l (c .before .before .before .before .word-width .result) (count .result) (made .result)) (front .ensures .0)
+    ∙ ap (λ (w : ℕ). lowestBy (imageFront k s) w (count .result) (made .result)) (c .before .before .before .before .word-width .ensures)
+    ∙ ap (λ (n : ℕ). lowestBy (imageFront k s) (2 * k + 2) n (made .result)) (count .ensures ∙ ok .words)
+    ∙ ap (lowestBy (imageFront k s) (2 * k + 2) (2 ^ k)) (made .ensures ∙ ok .numerator)
+    ∙ front-wrong k s ok (storedWord k)
+
+cast-t12 : tie.Need-cast-t12
+cast-t12 c = search needs
+
+returns-2 : tie.Need-returns-2
+returns-2 c =
+    let at = c .before .before .before .before .before .before .before in
+    let k = at .before .before .before .args .k .0 in
+    let s = at .before .before .before .args .image .now in
+    let count = c .before .before .before .before .before .before .word-count .ensures ∙ kept at .words in
     let less : firstWrong k s < 2 ^ k = omega (arith, found (c .before), count, c .if2 .taken) in
     rw (found (c .before))
     (ap done
@@ -106,10 +118,10 @@ returns-2 c =
 
 returns-3 : tie.Need-returns-3
 returns-3 c =
-    let at = c .before .before .before .before .before .before in
+    let at = c .before .before .before .before .before .before .before in
     let k = at .before .before .before .args .k .0 in
     let s = at .before .before .before .args .image .now in
-    let count = c .before .before .before .before .before .word-count .ensures ∙ kept at .words in
+    let count = c .before .before .before .before .before .before .word-count .ensures ∙ kept at .words in
     let none : 2 ^ k ≤ firstWrong k s = omega (arith, found (c .before), count, c .if2 .left) in
     ap done (sym (limit-passes k s (imageRefusal k s ∷ []) 0 (limit at) ∙ rw (le-ltb (firstWrong k s) (2 ^ k) none)))
 
@@ -122,9 +134,10 @@ check-spec =
     word-count-requires
     word-width-requires
     cast-width
+    front-requires
     numerator-requires
     lead-requires
     first-wrong-requires
-    cast-t11
+    cast-t12
     returns-2
     returns-3)

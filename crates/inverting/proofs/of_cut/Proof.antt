@@ -1,6 +1,6 @@
 -- `inverting::of_cut` meets its contract: the word of node j is judged, then that of node j + 1, and R is interpolated between them.
 -- Assumes nothing.
-use mathlib.Core.Path.{_≡_, sym, ap, _∙_}
+use mathlib.Core.Path.{_≡_, sym, ap, ap₂, _∙_}
 use mathlib.Core.Bool.{false}
 use mathlib.Core.List.{List}
 use Prim.Native.Nat.{ℕ, _+_, _-_, _*_, _/_, _^_, _≤_, _<_}
@@ -13,7 +13,9 @@ use Rattle.answers.specs.Refusal.{served}
 use Rattle.answers.specs.Answer.{reciprocalGiven}
 use Rattle.image.specs.Image.{nodeOf, judgedWord, judgedNode}
 use Rattle.image.specs.Refusals.{wordRefusal}
+use Rattle.image.specs.Calls.{imageFront}
 use Rattle.image.proofs.Limits.{ImageKept, told, limit-none, limit-kept}
+use Rattle.image.proofs.OwnBytes.{front-word, front-node}
 use Rattle.image.proofs.Judging.{wordAtNode, atNode, word-wrong, word-right, node-wrong, node-right, right-node}
 use Rattle.interpolation.specs.Algorithm.{nodeNumber, productSum, chopped}
 use Rattle.interpolation.proofs.Cut.{cut-index-least, cut-index-most, cut-number-below, cut-fraction-below, cut-node-most, cut-node-falls, product-most}
@@ -23,7 +25,7 @@ use Rattle.inverting.proofs.of_cut.Tie as tie
 
 -- the precision, the image, the cut operand and its node number, at the place where the code has j
 abbrev start : tie.After-high → tie.Start
-start c = c .before .before .before .before .before .before .before
+start c = c .before .before .before .before .before .before .before .before
 
 abbrev k : tie.After-high → ℕ
 k c = start c .args .k .0
@@ -47,6 +49,13 @@ below c = cut-number-below (k c) (t c) (start c .pre .least) (start c .pre .most
 
 few : (c : tie.After-high) → 2 ^ k c ≤ 2 ^ 12
 few c = pow-mono (start c .pre .high)
+
+-- the image's own bytes
+abbrev own : tie.After-high → List ℕ
+own c = c .before .before .before .before .before .before .front .result .now
+
+is-own : (c : tie.After-high) → own c ≡ imageFront (k c) (s c)
+is-own c = c .before .before .before .before .before .before .front .ensures .0
 
 -- the numbers that the code has: the words of the image, and j
 abbrev words : tie.After-high → ℕ
@@ -74,8 +83,9 @@ lower : (c : tie.After-judged-word) → c .judged-word .result .0 ≡ wordAtNode
 lower c =
     let at = c .before in
     c .judged-word .ensures
-    ∙ numbers at (λ (w M n l : ℕ). judgedWord (s at) w M n l (at .high .result - words at))
-    ∙ ap (judgedWord (s at) (wordWidth (k at)) (2 ^ (3 * k at + 3)) (2 ^ k at) (2 ^ (2 * k at + 2))) (number at)
+    ∙ numbers at (λ (w M n l : ℕ). judgedWord (own at) w M n l (at .high .result - words at))
+    ∙ ap₂ (wordAtNode (k at)) (is-own at) (number at)
+    ∙ front-word (k at) (s at) (kept at) (j at) (below at) (2 ^ (3 * k at + 3)) (2 ^ k at) (2 ^ (2 * k at + 2))
 
 -- behind the first test its word is right
 lower-right : (c : tie.Else1)
@@ -93,8 +103,9 @@ upper : (c : tie.After-judged-node)
 upper c =
     let at = c .before .before .before .before in
     c .judged-node .ensures
-    ∙ numbers at (λ (w M n l : ℕ). judgedNode (s at) w M n l (at .high .result - words at + 1))
-    ∙ ap (λ (i : ℕ). judgedNode (s at) (wordWidth (k at)) (2 ^ (3 * k at + 3)) (2 ^ k at) (2 ^ (2 * k at + 2)) (i + 1)) (number at)
+    ∙ numbers at (λ (w M n l : ℕ). judgedNode (own at) w M n l (at .high .result - words at + 1))
+    ∙ ap₂ (λ (l : List ℕ) (i : ℕ). atNode (k at) l (i + 1)) (is-own at) (number at)
+    ∙ front-node (k at) (s at) (kept at) (j at + 1) (omega (arith, below at)) (2 ^ (3 * k at + 3)) (2 ^ (2 * k at + 2))
 
 -- behind the second test its word is right, or it is the last node
 upper-right : (c : tie.Else2)
@@ -131,6 +142,9 @@ products c =
     let few : 3 * k at + 6 ≤ 42 = omega (arith, start at .pre .high) in
     (omega (arith, first, pow-mono few), omega (arith, first, pow-mono few, mul-le-mul-right (2 ^ (k at + 3)) (falling c)))
 
+front-requires : tie.Need-front-requires
+front-requires c κs = search needs
+
 word-count-requires : tie.Need-word-count-requires
 word-count-requires c κs = search needs
 
@@ -138,7 +152,7 @@ word-width-requires : tie.Need-word-width-requires
 word-width-requires c κs = search needs
 
 cast-width : tie.Need-cast-width
-cast-width c = omega (arith, c .word-width .ensures, c .before .before .before .pre .high)
+cast-width c = omega (arith, c .word-width .ensures, c .before .before .before .before .pre .high)
 
 numerator-requires : tie.Need-numerator-requires
 numerator-requires c κs = search needs
@@ -147,7 +161,7 @@ lead-requires : tie.Need-lead-requires
 lead-requires c κs = search needs
 
 add-piece : tie.Need-add-piece
-add-piece c = omega (arith, c .before .before .before .before .before .before .pre .high)
+add-piece c = omega (arith, c .before .before .before .before .before .before .before .pre .high)
 
 high-requires : tie.Need-high-requires
 high-requires c κs = search needs
@@ -163,8 +177,8 @@ sub-j c =
 judged-word-requires : tie.Need-judged-word-requires
 judged-word-requires c κs = search needs
 
-cast-t16 : tie.Need-cast-t16
-cast-t16 c = search needs
+cast-t17 : tie.Need-cast-t17
+cast-t17 c = search needs
 
 returns : tie.Need-returns
 returns c =
@@ -182,11 +196,11 @@ add-judged-node c =
 judged-node-requires : tie.Need-judged-node-requires
 judged-node-requires c κs = search needs
 
-cast-t18 : tie.Need-cast-t18
-cast-t18 c = search needs
+cast-t19 : tie.Need-cast-t19
+cast-t19 c = search needs
 
-add-t19 : tie.Need-add-t19
-add-t19 c =
+add-t20 : tie.Need-add-t20
+add-t20 c =
     let at = c .before .before .before .before .before .before in
     omega (arith, number at, below at, few at)
 
@@ -237,6 +251,7 @@ pub of-cut-spec : {M : Type 1} → statement M
 of-cut-spec =
     tie.close
     (tie.spec
+    front-requires
     word-count-requires
     word-width-requires
     cast-width
@@ -247,12 +262,12 @@ of-cut-spec =
     cast-j
     sub-j
     judged-word-requires
-    cast-t16
+    cast-t17
     returns
     add-judged-node
     judged-node-requires
-    cast-t18
-    add-t19
+    cast-t19
+    add-t20
     returns-2
     low-requires
     add-interpolated

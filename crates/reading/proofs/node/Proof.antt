@@ -2,7 +2,7 @@
 -- Assumes nothing.
 use mathlib.Core.Path.{_≡_, sym, _∙_, ap}
 use mathlib.Core.List.{List, [], _∷_}
-use Prim.Native.Nat.{ℕ, _^_, _≤_}
+use Prim.Native.Nat.{ℕ, _+_, _*_, _^_, _≤_}
 use native.Mathlib.Omega.{arith}
 use lib.ListN.{length}
 use borrow.Author.Needs.{needs}
@@ -11,6 +11,7 @@ use Rattle.answers.specs.Answer.{nodeRead}
 use Rattle.image.specs.Image.{nodeOf, judgedNode}
 use Rattle.image.specs.Refusals.{brokenLimit, nodeRefusal, wordRefusal}
 use Rattle.image.proofs.Limits.{ImageKept, told, limit-refuses, limit-passes, limit-kept}
+use Rattle.image.proofs.OwnBytes.{front-node}
 use Rattle.image.proofs.Judging.{atNode, node-wrong, node-right, node-past, node-refused, node-served}
 use Rattle.reading.proofs.node.Statement.{statement}
 use Rattle.reading.proofs.node.Tie as tie
@@ -40,16 +41,22 @@ counted c = c .word-count .ensures ∙ kept (c .before) .words
 there : (c : tie.Else2) → j (c .before .before) ≤ 2 ^ k (c .before .before)
 there c = omega (arith, counted (c .before), c .if2 .left)
 
--- what it is judged to be
-value : (c : tie.After-judged-node) → c .judged-node .result .0 ≡ atNode (k (c .before .before .before .before .before .before)) (s (c .before .before .before .before .before .before)) (j (c .before .before .before .before .before .before))
+-- the test of the limits, from where node j has been judged
+abbrev before : tie.After-judged-node → tie.Else1
+before c = c .before .before .before .before .before .before .before
+
+-- what it is judged to be, by the image's own bytes and so by the buffer
+value : (c : tie.After-judged-node) → c .judged-node .result .0 ≡ atNode (k (before c)) (s (before c)) (j (before c))
 value c =
-    let at = c .before .before .before .before .before .before in
+    let at = before c in
     c .judged-node .ensures
-    ∙ told (kept at) (λ (w M n l : ℕ). judgedNode (s at) w M n l (j at))
-    (c .before .before .before .word-width .ensures)
+    ∙ told (kept at) (λ (w M n l : ℕ). judgedNode (c .before .before .before .front .result .now) w M n l (j at))
+    (c .before .before .before .before .word-width .ensures)
     (c .before .before .numerator .ensures)
-    (c .before .before .before .before .before .word-count .ensures)
+    (c .before .before .before .before .before .before .word-count .ensures)
     (c .before .lead .ensures)
+    ∙ ap (λ (l : List ℕ). atNode (k at) l (j at)) (c .before .before .before .front .ensures .0)
+    ∙ front-node (k at) (s at) (kept at) (j at) (there (c .before .before .before .before .before)) (2 ^ (3 * k at + 3)) (2 ^ (2 * k at + 2))
 
 broken-limit-requires : tie.Need-broken-limit-requires
 broken-limit-requires c κs = search needs
@@ -80,6 +87,9 @@ word-width-requires c κs = search needs
 cast-width : tie.Need-cast-width
 cast-width c = omega (arith, c .word-width .ensures, kept (c .before .before .before) .high)
 
+front-requires : tie.Need-front-requires
+front-requires c κs = search needs
+
 numerator-requires : tie.Need-numerator-requires
 numerator-requires c κs = search needs
 
@@ -92,7 +102,7 @@ judged-node-requires c κs = search needs
 returns-3 : tie.Need-returns-3
 returns-3 c =
     let node = c .before .before in
-    let in-table = node .before .before .before .before in
+    let in-table = node .before .before .before .before .before in
     let at = in-table .before .before in
     let wrong = node-wrong (k at) (s at) (j at) (kept at) (there in-table) (omega (arith, value node, c .if3 .taken)) in
     ap nodeRead
@@ -102,7 +112,7 @@ returns-3 c =
 returns-4 : tie.Need-returns-4
 returns-4 c =
     let node = c .before .before in
-    let in-table = node .before .before .before .before in
+    let in-table = node .before .before .before .before .before in
     let at = in-table .before .before in
     let right = node-right (k at) (s at) (j at) (kept at) (there in-table) (λ e. omega (arith, c .if3 .left, value node, e)) in
     ap (λ (x : ℕ). nodeRead (served x)) (value node ∙ right .1)
@@ -120,6 +130,7 @@ node-spec =
     returns-2
     word-width-requires
     cast-width
+    front-requires
     numerator-requires
     lead-requires
     judged-node-requires
