@@ -4,3 +4,4 @@ pub mod Limits
 pub mod Lowest
 pub mod OwnBytes
 pub mod Shown
+pub mod Piece

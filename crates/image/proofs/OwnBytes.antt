@@ -6,12 +6,13 @@ use mathlib.Core.Bool.{Bool, true, false, cond, not}
 use mathlib.Core.List.{List}
 use Prim.Native.Nat.{ℕ, _^_, _≤_, _<_}
 use native.Mathlib.Omega.{arith}
-use lib.Dec.{eqb, leb}
-use lib.ListN.{length, take, length-take}
-use borrow.Author.Tests.{eqb-false}
+use lib.Dec.{eqb, leb, ltb}
+use lib.ListN.{length, getD, take, length-take, List·getD-eq-default}
+use lib.Seq.{getD-take}
+use borrow.Author.Tests.{eqb-false, ltb-true, ltb-false}
 use Rattle.precision.specs.Precision.{wordWidth, imageLength}
 use Rattle.nodes.specs.Nodes.{judged}
-use Rattle.packing.specs.Packing.{wordAt, wordRead}
+use Rattle.packing.specs.Packing.{Bytes, wordAt, wordRead}
 use Rattle.packing.proofs.Words.{word-take}
 use Rattle.packing.proofs.Reading.{read-there}
 use Rattle.image.specs.Image.{firstWrongWord, judgedWord, judgedNode}
@@ -27,6 +28,16 @@ module _ (k : ℕ) (s : List ℕ) (kept : ImageKept k s) where
   pub front-length : length (imageFront k s) ≡ imageLength k
   front-length = ap length front-taken ∙ length-take (imageLength k) s ∙ omega (arith, kept .long)
 
+  -- they are bytes where the buffer's are
+  pub front-bytes : Bytes s → Bytes (imageFront k s)
+  front-bytes h i = rw front-taken (by (ltb i (imageLength k)) refl)
+    where
+      by : (b : Bool) → ltb i (imageLength k) ≡ b → getD (take (imageLength k) s) i 0 < 256
+      by true e = rw (getD-take (imageLength k) s i 0 (ltb-true i (imageLength k) e)) (h i)
+      by false e =
+          let past : length (take (imageLength k) s) ≤ i = omega (arith, length-take (imageLength k) s, ltb-false i (imageLength k) e) in
+          rw (List·getD-eq-default (take (imageLength k) s) 0 past) (omega arith)
+
   -- so they keep the limits too
   pub front-kept : ImageKept k (imageFront k s)
   front-kept =
@@ -40,18 +51,18 @@ module _ (k : ℕ) (s : List ℕ) (kept : ImageKept k s) where
       }
 
   module _ (j : ℕ) (h : j < 2 ^ k) where
-    -- a word that is there is read
-    is-read : (t : List ℕ) → imageLength k ≤ length t → wordRead (wordWidth k) t j ≡ wordAt (wordWidth k) t j
-    is-read t long = read-there (wordWidth k) t j (omega arith) (omega (arith, kept .high)) (word-in-buffer k (kept .low) t j long h)
-
-    -- it is the same, held and read
-    same-word : wordAt (wordWidth k) (imageFront k s) j ≡ wordAt (wordWidth k) s j
+    -- a word is the same, held and read
+    pub same-word : wordAt (wordWidth k) (imageFront k s) j ≡ wordAt (wordWidth k) s j
     same-word =
         ap (λ (t : List ℕ). wordAt (wordWidth k) t j) front-taken
         ∙ word-take (wordWidth k) (imageLength k) s j (omega arith) (omega (arith, front-length, word-in-buffer k (kept .low) (imageFront k s) j (front-kept .long) h))
 
+    small : wordWidth k ≤ 57
+    small = omega (arith, kept .high)
+
     same-read : wordRead (wordWidth k) (imageFront k s) j ≡ wordRead (wordWidth k) s j
-    same-read = is-read (imageFront k s) (front-kept .long) ∙ same-word ∙ sym (is-read s (kept .long))
+    same-read =
+        read-there (wordWidth k) (imageFront k s) j small ∙ same-word ∙ sym (read-there (wordWidth k) s j small)
 
     -- and so is what it is judged to be
     pub front-word : (M n lead : ℕ) → judgedWord (imageFront k s) (wordWidth k) M n lead j ≡ judgedWord s (wordWidth k) M n lead j

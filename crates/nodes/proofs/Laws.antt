@@ -7,7 +7,7 @@ use Prim.Native.Nat.{ℕ, zero, suc, _+_, _-_, _*_, _%_, _^_, _≤_, _<_}
 use native.Mathlib.Nat.{le-refl, zero-lt-suc, not-suc-le-zero, add-assoc, mul-le-mul, mul-le-mul-left, mul-le-mul-right, mod-eq-of-lt, mod-eq-sub-mod, mul-mod-left, add-mod-left, lt-of-not-le}
 use native.Mathlib.Omega.{arith}
 use lib.Dec.{eqb}
-use borrow.Author.Tests.{eq-eqb, ne-eqb, eqb-true, lt-ltb}
+use borrow.Author.Tests.{eq-eqb, ne-eqb, eqb-true, lt-ltb, le-leb}
 use Rattle.bools.proofs.Bools.{same}
 use Rattle.quotient.specs.Quotient.{roundedUp, roundsUp}
 use Rattle.quotient.proofs.Laws.{reaches, passes-less, unique, rounds-up}
@@ -149,6 +149,18 @@ module _ {H K : ℕ} (shape : Shape H K) where
       by : (b : Bool) → eqb (cond b (nodeAt H K j) 0) 0 ≡ not b
       by true = ne-eqb (nodeAt H K j) 0 (λ e. omega (arith, e, above j h))
       by false = refl
+
+  -- behind the last word zero bits are judged to be the last node, which is the leading one
+  pub judges-last : H < 2 ^ 32 → 2 * K < 2 ^ 32 → judged (2 * H * K) K H K 0 ≡ H
+  judges-last small few =
+      rw (
+        ne-eqb K 0 (λ e. omega (arith, e)),
+        lt-ltb (H + 0) (2 ^ 32) (omega arith),
+        lt-ltb (K + K) (2 ^ 32) (omega arith),
+        le-leb (2 * H * K) ((H + 0) * (K + K)) (omega arith),
+        lt-ltb ((H + 0) * (K + K)) (2 * H * K + (K + K)) (omega arith),
+      )
+      (omega arith)
 
   -- neighbours differ by less than D, where D × K is twice the leading one (document 002, Lemma 1)
   pub near : (D : ℕ) → D * K ≡ 2 * H → K < D → (j : ℕ) → nodeAt H K j < nodeAt H K (j + 1) + D

@@ -100,6 +100,13 @@ module _ (k : ℕ) where
       rw (numerator k 2)
       (laws.judges-zero shape j word h l (rw lead-double (pow-lt top)) (rw (← double k) (pow-lt few)))
 
+  -- zero bits behind the last word are judged to be the last node
+  pub judged-last : 2 * k + 3 < 32 → judged (2 ^ (3 * k + 3)) (2 ^ k) (2 ^ (2 * k + 2)) (2 ^ k) 0 ≡ 2 ^ (2 * k + 2)
+  judged-last top =
+      let few : k + 1 < 32 = omega arith in
+      let small : 2 * k + 2 < 32 = omega arith in
+      rw (numerator k 2) (laws.judges-last shape (pow-lt small) (rw (← double k) (pow-lt few)))
+
   -- nodes and words stand where k is a precision and j is in the table, and nowhere else
   pub node-there : inRange k ≡ true → (j : ℕ) → j ≤ 2 ^ k → nodeOr0 k j ≡ node k j
   node-there r j h = rw (r, le-leb j (2 ^ k) h)

@@ -3,12 +3,12 @@
 use Prim.Native.Nat.{ℕ, zero, suc, _+_, _-_, _*_, _/_, _%_, _^_, _≤_, _<_}
 use mathlib.Core.Path.{_≡_, sym, ap, ap₂, _∙_, subst}
 use mathlib.Core.List.{List}
-use native.Mathlib.Nat.{zero-add, mul-comm, mul-add-div-right, mul-add-mod-self-right, mod-lt, mod-one, div-eq-of-lt, mul-div-mul-right}
+use native.Mathlib.Nat.{zero-add, zero-div, mod-eq-of-lt, mul-comm, mul-add-div-right, mul-add-mod-self-right, mod-lt, mod-one, div-eq-of-lt, mul-div-mul-right}
 use native.Mathlib.Omega.{arith}
-use lib.ListN.{getD}
+use lib.ListN.{getD, length, List·getD-eq-default}
 use lib.Pow.{pow-pos, pow-add, high, low, shr-shr, field, mod-pow-add}
 use Rattle.packing.specs.Packing.{bytesValue, Bytes, fieldAt}
-use Rattle.packing.proofs.Numbers.{packed-ext, packed-add, packed-front}
+use Rattle.packing.proofs.Numbers.{packed-ext, packed-zero, packed-add, packed-front}
 
 -- bits from x + w on above do not reach the w bits from k on
 cut : (p q x w k : ℕ) → (p * 2 ^ (x + w + k) + q) / 2 ^ k % 2 ^ w ≡ q / 2 ^ k % 2 ^ w
@@ -70,6 +70,16 @@ field-local s t b w one h =
     ap (λ (x : ℕ). x / 2 ^ (8 * ((b + w - 1) / 8 + 1) - (b + w)) % 2 ^ w)
     (packed-ext 8 (λ (i : ℕ). getD s (b / 8 + i) 0) (λ (i : ℕ). getD t (b / 8 + i) 0) ((b + w - 1) / 8 + 1 - b / 8)
     (λ i l. h (b / 8 + i) (omega arith) (omega arith)))
+
+-- past the end of the bytes all bits are 0
+pub field-past : (s : List ℕ) (b w : ℕ) → 8 * length s ≤ b → fieldAt s b w ≡ 0
+unfolding fieldAt
+field-past s b w h =
+    ap (λ (x : ℕ). x / 2 ^ (8 * ((b + w - 1) / 8 + 1) - (b + w)) % 2 ^ w)
+    (packed-ext 8 (λ (i : ℕ). getD s (b / 8 + i) 0) (λ (i : ℕ). 0) ((b + w - 1) / 8 + 1 - b / 8) (λ i l. List·getD-eq-default s 0 (omega arith))
+    ∙ packed-zero 8 ((b + w - 1) / 8 + 1 - b / 8))
+    ∙ ap (λ (x : ℕ). x % 2 ^ w) (zero-div (2 ^ (8 * ((b + w - 1) / 8 + 1) - (b + w))))
+    ∙ mod-eq-of-lt (pow-pos w)
 
 -- bits, then bits
 pub field-split : (s : List ℕ) (b u v : ℕ) → Bytes s → 1 ≤ u → 1 ≤ v → fieldAt s b (u + v) ≡ fieldAt s b u * 2 ^ v + fieldAt s (b + u) v

@@ -23,6 +23,11 @@ packed-ext w f g zero h = refl
 packed-ext w f g (suc n) h =
     ap₂ (λ (x y : ℕ). x * 2 ^ w + y) (packed-ext w f g n (λ j l. h j (le-step l))) (h n (le-refl (suc n)))
 
+-- words that are 0 make 0
+pub packed-zero : (w n : ℕ) → packed w (λ (j : ℕ). 0) n ≡ 0
+packed-zero w zero = refl
+packed-zero w (suc n) = ap (λ (x : ℕ). x * 2 ^ w + 0) (packed-zero w n) ∙ omega arith
+
 -- the first a words stand before the m others
 pub packed-add : (w : ℕ) (f : ℕ → ℕ) (a m : ℕ)
     → packed w f (a + m) ≡ packed w f a * 2 ^ (m * w) + packed w (λ (i : ℕ). f (a + i)) m

@@ -1,15 +1,14 @@
 -- Laws of `wordAt`: those of `fieldAt` at the places of words; also where the last byte has filling bits.
 -- Assumes nothing.
 use Prim.Native.Nat.{ℕ, _+_, _-_, _*_, _/_, _%_, _^_, _≤_, _<_}
-use mathlib.Core.Path.{_≡_, sym, ap, ap₂, _∙_, subst}
+use mathlib.Core.Path.{_≡_, ap, _∙_}
 use mathlib.Core.List.{List}
-use native.Mathlib.Nat.{zero-add, mul-comm, mul-le-mul-right, mul-add-div-right, mul-add-mod-self-right, mod-lt}
+use native.Mathlib.Nat.{mul-le-mul-right}
 use native.Mathlib.Omega.{arith}
-use lib.ListN.{getD, take}
+use lib.ListN.{getD, length, take}
 use lib.Seq.{getD-take}
-use lib.Pow.{pow-pos, pow-add, shr-shr}
 use Rattle.packing.specs.Packing.{byteCount, fillBits, bytesValue, Bytes, firstByte, lastByte, fieldAt, wordAt}
-use Rattle.packing.proofs.Fields.{field-is-digit-below, field-lt, field-local, pair-high, pair-low}
+use Rattle.packing.proofs.Fields.{field-is-digit-below, field-lt, field-local, field-past, pair-high, pair-low}
 
 -- the key law: word j of a byte list is digit j of the number that its first L bytes make
 module _ (w j L : ℕ) (one : 1 ≤ w) (within : j * w + w ≤ 8 * L) where
@@ -31,6 +30,11 @@ pub word-local : (w : ℕ) (s t : List ℕ) (j : ℕ) → 1 ≤ w
     → ((i : ℕ) → firstByte w j ≤ i → i ≤ lastByte w j → getD s i 0 ≡ getD t i 0) → wordAt w s j ≡ wordAt w t j
 unfolding wordAt
 word-local w s t j one h = field-local s t (j * w) w one h
+
+-- past the end of the bytes a word is 0
+pub word-past : (w : ℕ) (s : List ℕ) (j : ℕ) → 8 * length s ≤ j * w → wordAt w s j ≡ 0
+unfolding wordAt
+word-past w s j h = field-past s (j * w) w h
 
 -- two neighbours, read at once
 pub words-high : (w : ℕ) (s : List ℕ) (j : ℕ) → Bytes s → 1 ≤ w → fieldAt s (j * w) (2 * w) / 2 ^ w ≡ wordAt w s j

@@ -1,25 +1,33 @@
--- `inverting::of_cut` meets its contract: the word of node j is judged, then that of node j + 1, and R is interpolated between them.
+-- `inverting::of_cut` meets its contract: the words of nodes j and j + 1 are had in one reading, the first is judged, then the second, and R is
+-- interpolated between them.
 -- Assumes nothing.
-use mathlib.Core.Path.{_≡_, sym, ap, ap₂, _∙_}
+use mathlib.Core.Path.{_≡_, sym, ap, _∙_}
 use mathlib.Core.Bool.{false}
 use mathlib.Core.List.{List}
-use Prim.Native.Nat.{ℕ, _+_, _-_, _*_, _/_, _^_, _≤_, _<_}
-use native.Mathlib.Nat.{le-of-lt, mul-le-mul-right}
+use Prim.Native.Nat.{ℕ, _+_, _-_, _*_, _/_, _%_, _^_, _≤_, _<_}
+use native.Mathlib.Nat.{le-of-lt, mul-le-mul, mul-le-mul-right}
 use native.Mathlib.Omega.{arith}
 use lib.Pow.{pow-mono}
 use borrow.Author.Needs.{needs}
+use denote.Ref.{now}
 use Rattle.precision.specs.Precision.{wordWidth}
+use Rattle.packing.specs.Packing.{Bytes, fieldAt, fieldRead}
+use Rattle.packing.proofs.Words.{word-lt, words-high, words-low}
+use Rattle.packing.proofs.Reading.{field-there}
+use Rattle.nodes.specs.Nodes.{judged}
 use Rattle.answers.specs.Refusal.{served}
-use Rattle.answers.specs.Answer.{reciprocalGiven}
-use Rattle.image.specs.Image.{nodeOf, judgedWord, judgedNode}
-use Rattle.image.specs.Refusals.{wordRefusal}
+use Rattle.image.specs.Image.{nodeOf}
 use Rattle.image.specs.Calls.{imageFront}
+use Rattle.image.specs.Refusals.{wordRefusal}
 use Rattle.image.proofs.Limits.{ImageKept, told, limit-none, limit-kept}
-use Rattle.image.proofs.OwnBytes.{front-word, front-node}
+use Rattle.image.proofs.OwnBytes.{front-bytes}
+use Rattle.image.proofs.Piece.{piece-lower, piece-upper}
 use Rattle.image.proofs.Judging.{wordAtNode, atNode, word-wrong, word-right, node-wrong, node-right, right-node}
 use Rattle.interpolation.specs.Algorithm.{nodeNumber, productSum, chopped}
-use Rattle.interpolation.proofs.Cut.{cut-index-least, cut-index-most, cut-number-below, cut-fraction-below, cut-node-most, cut-node-falls, product-most}
+use Rattle.interpolation.proofs.Cut.{cut-index-least, cut-index-most, cut-number-below, cut-fraction-below, cut-node-most, cut-node-falls, product-most, chopped-most}
 use Rattle.interpolation.proofs.Answers.{first-wrong, next-wrong, none-wrong}
+use Rattle.inverting.specs.Code.{decoded}
+use Rattle.inverting.proofs.Decoding.{refusal, decoded-served, decoded-refusal}
 use Rattle.inverting.proofs.of_cut.Statement.{statement}
 use Rattle.inverting.proofs.of_cut.Tie as tie
 
@@ -43,6 +51,10 @@ j c = nodeNumber (k c) (t c)
 kept : (c : tie.After-high) → ImageKept (k c) (s c)
 kept c = let p = start c .pre in limit-kept (k c) (s c) (limit-none (k c) (s c) (p .low) (p .high) (p .long))
 
+-- the image's own bytes are bytes
+bytes : (c : tie.After-high) → Bytes (imageFront (k c) (s c))
+bytes c = front-bytes (k c) (s c) (kept c) (λ i. omega (arith, c .before .before .before .before .before .before .before .shared-slice-known .given i))
+
 -- j is below 2^k, and so of 12 bits
 below : (c : tie.After-high) → j c < 2 ^ k c
 below c = cut-number-below (k c) (t c) (start c .pre .least) (start c .pre .most)
@@ -50,16 +62,15 @@ below c = cut-number-below (k c) (t c) (start c .pre .least) (start c .pre .most
 few : (c : tie.After-high) → 2 ^ k c ≤ 2 ^ 12
 few c = pow-mono (start c .pre .high)
 
--- the image's own bytes
-abbrev own : tie.After-high → List ℕ
-own c = c .before .before .before .before .before .before .front .result .now
-
-is-own : (c : tie.After-high) → own c ≡ imageFront (k c) (s c)
-is-own c = c .before .before .before .before .before .before .front .ensures .0
-
--- the numbers that the code has: the words of the image, and j
+-- the numbers that the code has: the words of the image, their width, and j
 abbrev words : tie.After-high → ℕ
 words c = c .before .before .before .before .before .word-count .result
+
+abbrev width : tie.After-high → ℕ
+width c = c .before .before .before .before .word-width .result
+
+is-width : (c : tie.After-high) → width c ≡ wordWidth (k c)
+is-width c = c .before .before .before .before .word-width .ensures
 
 count : (c : tie.After-high) → words c ≡ 2 ^ k c
 count c = c .before .before .before .before .before .word-count .ensures ∙ kept c .words
@@ -69,59 +80,110 @@ number c = ap (λ (i : ℕ). i - words c) (c .high .ensures) ∙ ap (λ (n : ℕ
 
 -- the numbers that the judging is told are those of the precision
 numbers : (c : tie.After-high) (g : ℕ → ℕ → ℕ → ℕ → ℕ)
-    → g (c .before .before .before .before .word-width .result) (c .before .before .before .numerator .result) (words c) (c .before .before .lead .result)
+    → g (width c) (c .before .before .before .numerator .result) (words c) (c .before .before .lead .result)
     ≡ g (wordWidth (k c)) (2 ^ (3 * k c + 3)) (2 ^ k c) (2 ^ (2 * k c + 2))
 numbers c g =
     told (kept c) g
-    (c .before .before .before .before .word-width .ensures)
+    (is-width c)
     (c .before .before .before .numerator .ensures)
     (c .before .before .before .before .before .word-count .ensures)
     (c .before .before .lead .ensures)
 
--- the lower node, as it is judged
-lower : (c : tie.After-judged-word) → c .judged-word .result .0 ≡ wordAtNode (k (c .before)) (s (c .before)) (j (c .before))
-lower c =
+-- a word has at most 32 bits
+narrow : (c : tie.After-high) → 2 ^ wordWidth (k c) ≤ 2 ^ 32
+narrow c = let few : wordWidth (k c) ≤ 32 = omega (arith, start c .pre .high) in pow-mono few
+
+-- both words, as they are read
+abbrev both : tie.After-high → ℕ
+both c = fieldAt (imageFront (k c) (s c)) (j c * wordWidth (k c)) (2 * wordWidth (k c))
+
+reads : (c : tie.After-field) → c .field .result ≡ both (c .before)
+reads c =
     let at = c .before in
-    c .judged-word .ensures
-    ∙ numbers at (λ (w M n l : ℕ). judgedWord (own at) w M n l (at .high .result - words at))
-    ∙ ap₂ (wordAtNode (k at)) (is-own at) (number at)
-    ∙ front-word (k at) (s at) (kept at) (j at) (below at) (2 ^ (3 * k at + 3)) (2 ^ k at) (2 ^ (2 * k at + 2))
+    let front = imageFront (k at) (s at) in
+    let both-narrow : 2 * wordWidth (k at) ≤ 57 = omega (arith, start at .pre .high) in
+    c .field .ensures .0
+    ∙ ap (λ (f : List ℕ). fieldRead f ((at .high .result - words at) * width at) (2 * width at)) (at .before .before .before .before .before .before .front .ensures .0)
+    ∙ ap (λ (i : ℕ). fieldRead front (i * width at) (2 * width at)) (number at)
+    ∙ ap (λ (w : ℕ). fieldRead front (j at * w) (2 * w)) (is-width at)
+    ∙ field-there front (j at * wordWidth (k at)) (2 * wordWidth (k at)) both-narrow
+
+-- the words of it that the code has
+first-word : (c : tie.After-high2) → c .high2 .result ≡ both (c .before .before) / 2 ^ wordWidth (k (c .before .before))
+first-word c =
+    let at = c .before .before in
+    c .high2 .ensures ∙ ap (λ (x : ℕ). x / 2 ^ width at) (reads (c .before)) ∙ ap (λ (w : ℕ). both at / 2 ^ w) (is-width at)
+
+-- the lower node, as it is judged
+lower : (c : tie.After-judge) → c .judge .result .0 ≡ wordAtNode (k (c .before .before .before)) (s (c .before .before .before)) (j (c .before .before .before))
+lower c =
+    let at = c .before .before .before in
+    let first = c .before .high2 .result in
+    c .judge .ensures
+    ∙ numbers at (λ (w M n l : ℕ). judged M n l (at .high .result - words at) first)
+    ∙ ap (λ (i : ℕ). judged (2 ^ (3 * k at + 3)) (2 ^ k at) (2 ^ (2 * k at + 2)) i first) (number at)
+    ∙ ap (judged (2 ^ (3 * k at + 3)) (2 ^ k at) (2 ^ (2 * k at + 2)) (j at)) (first-word (c .before))
+    ∙ piece-lower (k at) (s at) (j at) (kept at) (below at) (bytes at)
 
 -- behind the first test its word is right
+abbrev place1 : tie.Else1 → tie.After-high
+place1 c = c .before .before .before .before .before
+
 lower-right : (c : tie.Else1)
-    → (wordRefusal (k (c .before .before .before)) (s (c .before .before .before)) (j (c .before .before .before)) .applies ≡ false)
-    × (c .before .before .judged-word .result .0 ≡ nodeOf (k (c .before .before .before)) (s (c .before .before .before)) (j (c .before .before .before)))
+    → (wordRefusal (k (place1 c)) (s (place1 c)) (j (place1 c)) .applies ≡ false)
+    × (c .before .before .judge .result .0 ≡ nodeOf (k (place1 c)) (s (place1 c)) (j (place1 c)))
 lower-right c =
     let word = c .before .before in
-    let at = word .before in
+    let at = place1 c in
     let right = word-right (k at) (s at) (j at) (kept at) (below at) (λ e. omega (arith, c .if1 .left, lower word, e)) in
     (right .0, lower word ∙ right .1)
 
 -- the upper node, as it is judged
-upper : (c : tie.After-judged-node)
-    → c .judged-node .result .0 ≡ atNode (k (c .before .before .before .before)) (s (c .before .before .before .before)) (j (c .before .before .before .before) + 1)
+abbrev place2 : tie.After-judge2 → tie.After-high
+place2 c = place1 (c .before .before)
+
+second-word : (c : tie.After-low) → c .low .result ≡ both (place1 (c .before)) % 2 ^ wordWidth (k (place1 (c .before)))
+second-word c =
+    let at = place1 (c .before) in
+    c .low .ensures
+    ∙ ap (λ (x : ℕ). x % 2 ^ width at) (reads (c .before .before .before .before .before))
+    ∙ ap (λ (w : ℕ). both at % 2 ^ w) (is-width at)
+
+upper : (c : tie.After-judge2) → c .judge2 .result .0 ≡ atNode (k (place2 c)) (s (place2 c)) (j (place2 c) + 1)
 upper c =
-    let at = c .before .before .before .before in
-    c .judged-node .ensures
-    ∙ numbers at (λ (w M n l : ℕ). judgedNode (own at) w M n l (at .high .result - words at + 1))
-    ∙ ap₂ (λ (l : List ℕ) (i : ℕ). atNode (k at) l (i + 1)) (is-own at) (number at)
-    ∙ front-node (k at) (s at) (kept at) (j at + 1) (omega (arith, below at)) (2 ^ (3 * k at + 3)) (2 ^ (2 * k at + 2))
+    let at = place2 c in
+    let second = c .before .low .result in
+    c .judge2 .ensures
+    ∙ numbers at (λ (w M n l : ℕ). judged M n l (at .high .result - words at + 1) second)
+    ∙ ap (λ (i : ℕ). judged (2 ^ (3 * k at + 3)) (2 ^ k at) (2 ^ (2 * k at + 2)) (i + 1) second) (number at)
+    ∙ ap (judged (2 ^ (3 * k at + 3)) (2 ^ k at) (2 ^ (2 * k at + 2)) (j at + 1)) (second-word (c .before))
+    ∙ piece-upper (k at) (s at) (j at) (kept at) (below at) (bytes at)
 
 -- behind the second test its word is right, or it is the last node
+abbrev place3 : tie.Else2 → tie.After-high
+place3 c = place2 (c .before .before)
+
 upper-right : (c : tie.Else2)
-    → (wordRefusal (k (c .before .before .before .before .before .before)) (s (c .before .before .before .before .before .before)) (j (c .before .before .before .before .before .before) + 1) .applies ≡ false)
-    × (c .before .before .judged-node .result .0 ≡ nodeOf (k (c .before .before .before .before .before .before)) (s (c .before .before .before .before .before .before)) (j (c .before .before .before .before .before .before) + 1))
+    → (wordRefusal (k (place3 c)) (s (place3 c)) (j (place3 c) + 1) .applies ≡ false)
+    × (c .before .before .judge2 .result .0 ≡ nodeOf (k (place3 c)) (s (place3 c)) (j (place3 c) + 1))
 upper-right c =
     let node = c .before .before in
-    let at = node .before .before .before .before in
+    let at = place3 c in
     let right = node-right (k at) (s at) (j at + 1) (kept at) (omega (arith, below at)) (λ e. omega (arith, c .if2 .left, upper node, e)) in
     (right .0, upper node ∙ right .1)
 
--- so the nodes fall from the one to the other
-falling : (c : tie.Else2) → c .before .before .judged-node .result .0 ≤ c .before .before .before .before .before .judged-word .result .0
+-- the nodes that the code has then
+abbrev low-node : tie.Else2 → ℕ
+low-node c = c .before .before .before .before .before .before .judge .result .0
+
+abbrev high-node : tie.Else2 → ℕ
+high-node c = c .before .before .judge2 .result .0
+
+-- they fall from the one to the other
+falling : (c : tie.Else2) → high-node c ≤ low-node c
 falling c =
-    let at = c .before .before .before .before .before .before in
-    let lower = lower-right (c .before .before .before) in
+    let at = place3 c in
+    let lower = lower-right (c .before .before .before .before) in
     let upper = upper-right c in
     omega (
       arith,
@@ -130,15 +192,18 @@ falling c =
       cut-node-falls (k at) (t at),
     )
 
+-- the lower one is at most twice the leading one
+lower-most : (c : tie.Else2) → low-node c ≤ 2 ^ (2 * k (place3 c) + 3)
+lower-most c =
+    let at = place3 c in
+    let lower = lower-right (c .before .before .before .before) in
+    omega (arith, lower .1 ∙ right-node (k at) (s at) (j at) (le-of-lt (below at)) (lower .0), cut-node-most (k at) (t at))
+
 -- and their products by the width of a piece have few bits
-products : (c : tie.Else2)
-    → (c .before .before .before .before .before .judged-word .result .0 * 2 ^ (k (c .before .before .before .before .before .before) + 3) ≤ 2 ^ 42)
-    × (c .before .before .judged-node .result .0 * 2 ^ (k (c .before .before .before .before .before .before) + 3) ≤ 2 ^ 42)
+products : (c : tie.Else2) → (low-node c * 2 ^ (k (place3 c) + 3) ≤ 2 ^ 42) × (high-node c * 2 ^ (k (place3 c) + 3) ≤ 2 ^ 42)
 products c =
-    let at = c .before .before .before .before .before .before in
-    let lower = lower-right (c .before .before .before) in
-    let is-c = lower .1 ∙ right-node (k at) (s at) (j at) (le-of-lt (below at)) (lower .0) in
-    let first = product-most (k at) (c .before .before .before .before .before .judged-word .result .0) (omega (arith, is-c, cut-node-most (k at) (t at))) in
+    let at = place3 c in
+    let first = product-most (k at) (low-node c) (lower-most c) in
     let few : 3 * k at + 6 ≤ 42 = omega (arith, start at .pre .high) in
     (omega (arith, first, pow-mono few), omega (arith, first, pow-mono few, mul-le-mul-right (2 ^ (k at + 3)) (falling c)))
 
@@ -174,78 +239,117 @@ sub-j : tie.Need-sub-j
 sub-j c =
     omega (arith, c .high .ensures, count c, cut-index-least (k c) (t c) (start c .pre .least) (start c .pre .most))
 
-judged-word-requires : tie.Need-judged-word-requires
-judged-word-requires c κs = search needs
+cast-field : tie.Need-cast-field
+cast-field c = search needs
 
-cast-t17 : tie.Need-cast-t17
-cast-t17 c = search needs
+cast-field-2 : tie.Need-cast-field-2
+cast-field-2 c = search needs
+
+mul-field : tie.Need-mul-field
+mul-field c =
+    let m : c .high .result - words c ≤ 4096 = omega (arith, number c, below c, few c) in
+    let n : width c ≤ 26 = omega (arith, is-width c, start c .pre .high) in
+    omega (arith, mul-le-mul m n)
+
+mul-field-2 : tie.Need-mul-field-2
+mul-field-2 c = omega (arith, is-width c, start c .pre .high)
+
+field-requires : tie.Need-field-requires
+field-requires c κs = search needs
+
+high-requires-2 : tie.Need-high-requires-2
+high-requires-2 c κs = search needs
+
+cast-judge : tie.Need-cast-judge
+cast-judge c =
+    let at = c .before .before in
+    omega (arith, first-word c ∙ words-high (wordWidth (k at)) (imageFront (k at) (s at)) (j at) (bytes at) (omega arith), word-lt (wordWidth (k at)) (imageFront (k at) (s at)) (j at), narrow at)
+
+judge-requires : tie.Need-judge-requires
+judge-requires c κs = search needs
+
+refused-requires : tie.Need-refused-requires
+refused-requires c κs = search needs
 
 returns : tie.Need-returns
 returns c =
-    let word = c .before .before in
-    let at = word .before in
-    ap (λ (p : ℕ). reciprocalGiven (record { number = 6; place = p; value = 0 })) (number at)
-    ∙ ap reciprocalGiven
-    (sym (first-wrong (k at) (s at) (t at) (word-wrong (k at) (s at) (j at) (kept at) (below at) (omega (arith, lower word, c .if1 .taken)))))
+    let word = c .before .before .before in
+    let at = word .before .before .before in
+    ap decoded (c .refused .ensures)
+    ∙ decoded-refusal 6 (at .high .result - words at) (omega arith) (omega (arith, number at, below at, few at))
+    ∙ ap (refusal 6) (number at)
+    ∙ sym (first-wrong (k at) (s at) (t at) (word-wrong (k at) (s at) (j at) (kept at) (below at) (omega (arith, lower word, c .before .if1 .taken))))
 
-add-judged-node : tie.Need-add-judged-node
-add-judged-node c =
-    let at = c .before .before .before in
+add-judge : tie.Need-add-judge
+add-judge c =
+    let at = place1 c in
     omega (arith, number at, below at, few at)
-
-judged-node-requires : tie.Need-judged-node-requires
-judged-node-requires c κs = search needs
-
-cast-t19 : tie.Need-cast-t19
-cast-t19 c = search needs
-
-add-t20 : tie.Need-add-t20
-add-t20 c =
-    let at = c .before .before .before .before .before .before in
-    omega (arith, number at, below at, few at)
-
-returns-2 : tie.Need-returns-2
-returns-2 c =
-    let node = c .before .before in
-    let at = node .before .before .before .before in
-    ap (λ (p : ℕ). reciprocalGiven (record { number = 6; place = p + 1; value = 0 })) (number at)
-    ∙ ap reciprocalGiven
-    (sym (next-wrong (k at) (s at) (t at) (lower-right (node .before) .0)
-    (node-wrong (k at) (s at) (j at + 1) (kept at) (omega (arith, below at)) (omega (arith, upper node, c .if2 .taken)))))
 
 low-requires : tie.Need-low-requires
 low-requires c κs = search needs
 
+cast-judge-2 : tie.Need-cast-judge-2
+cast-judge-2 c =
+    let at = place1 (c .before) in
+    omega (arith, second-word c ∙ words-low (wordWidth (k at)) (imageFront (k at) (s at)) (j at) (bytes at) (omega arith), word-lt (wordWidth (k at)) (imageFront (k at) (s at)) (j at + 1), narrow at)
+
+judge-requires-2 : tie.Need-judge-requires-2
+judge-requires-2 c κs = search needs
+
+add-refused : tie.Need-add-refused
+add-refused c =
+    let at = place2 (c .before .before) in
+    omega (arith, number at, below at, few at)
+
+refused-requires-2 : tie.Need-refused-requires-2
+refused-requires-2 c κs = search needs
+
+returns-2 : tie.Need-returns-2
+returns-2 c =
+    let node = c .before .before .before in
+    let at = place2 node in
+    ap decoded (c .refused2 .ensures)
+    ∙ decoded-refusal 6 (at .high .result - words at + 1) (omega arith) (omega (arith, number at, below at, few at))
+    ∙ ap (λ (i : ℕ). refusal 6 (i + 1)) (number at)
+    ∙ sym (next-wrong (k at) (s at) (t at) (lower-right (node .before .before) .0)
+    (node-wrong (k at) (s at) (j at + 1) (kept at) (omega (arith, below at)) (omega (arith, upper node, c .before .if2 .taken))))
+
+low-requires-2 : tie.Need-low-requires-2
+low-requires-2 c κs = search needs
+
 add-interpolated : tie.Need-add-interpolated
-add-interpolated c = omega (arith, start (c .before .before .before .before .before .before .before .before) .pre .high)
+add-interpolated c = omega (arith, start (place3 (c .before .before)) .pre .high)
 
 interpolated-requires : tie.Need-interpolated-requires
 interpolated-requires c κs =
     let right = c .before .before in
-    let at = right .before .before .before .before .before .before in
+    let at = place3 right in
     let falls = falling right in
     let most = products right in
     record {
       small = omega (arith, start at .pre .high);
       fits = omega (arith, most .0, most .1);
       falls = omega (arith, falls);
-      inside = omega (arith, c .before .low .ensures, cut-fraction-below (k at) (t at));
+      inside = omega (arith, c .before .low2 .ensures, cut-fraction-below (k at) (t at));
     }
 
 returns-3 : tie.Need-returns-3
 returns-3 c =
     let right = c .before .before .before in
-    let low = c .before .before .low in
-    let node = right .before .before in
-    let at = node .before .before .before .before in
-    let lower = lower-right (node .before) in
+    let low = c .before .before .low2 in
+    let at = place3 right in
+    let lower = lower-right (right .before .before .before .before) in
     let upper = upper-right right in
     let is-r = c .interpolated .ensures
-    ∙ ap (λ (x : ℕ). chopped (k at) (productSum (k at) x (node .judged-node .result .0) (low .result))) (lower .1)
+    ∙ ap (λ (x : ℕ). chopped (k at) (productSum (k at) x (high-node right) (low .result))) (lower .1)
     ∙ ap (λ (x : ℕ). chopped (k at) (productSum (k at) (nodeOf (k at) (s at) (j at)) x (low .result))) (upper .1)
     ∙ ap (λ (x : ℕ). chopped (k at) (productSum (k at) (nodeOf (k at) (s at) (j at)) (nodeOf (k at) (s at) (j at + 1)) x)) (low .ensures) in
-    ap (λ (x : ℕ). reciprocalGiven (served x)) is-r
-    ∙ ap reciprocalGiven (sym (none-wrong (k at) (s at) (t at) (lower .0) (upper .0)))
+    let few : 2 * k at + 1 ≤ 25 = omega (arith, start at .pre .high) in
+    let small : c .interpolated .result .0 < 2 ^ 32 =
+    omega (arith, c .interpolated .ensures, chopped-most (k at) (low-node right) (high-node right) (low .result) (falling right) (omega (arith, low .ensures, cut-fraction-below (k at) (t at))) (lower-most right), pow-mono few) in
+    decoded-served (c .interpolated .result .0) small
+    ∙ ap served is-r
+    ∙ sym (none-wrong (k at) (s at) (t at) (lower .0) (upper .0))
 
 pub of-cut-spec : {M : Type 1} → statement M
 of-cut-spec =
@@ -261,15 +365,24 @@ of-cut-spec =
     high-requires
     cast-j
     sub-j
-    judged-word-requires
-    cast-t17
+    cast-field
+    cast-field-2
+    mul-field
+    mul-field-2
+    field-requires
+    high-requires-2
+    cast-judge
+    judge-requires
+    refused-requires
     returns
-    add-judged-node
-    judged-node-requires
-    cast-t19
-    add-t20
-    returns-2
+    add-judge
     low-requires
+    cast-judge-2
+    judge-requires-2
+    add-refused
+    refused-requires-2
+    returns-2
+    low-requires-2
     add-interpolated
     interpolated-requires
     returns-3)
