@@ -55,6 +55,7 @@ static void reciprocal(uint32_t k, const uint8_t *image, size_t length, uint32_t
     same(a, bytewise_O3_reciprocal(k, image, length, n, x), "bytewise_O3_reciprocal");
     kept_table table = kept_bind(k, image, length);
     same(a, kept_reciprocal(&table, n, x), "kept_reciprocal");
+    same(a, apart_reciprocal(k, image, length, n, x), "apart_reciprocal");
 }
 
 // The image that a builder leaves in a longer buffer, and the bytes after it.

@@ -11,7 +11,7 @@
 #include <time.h>
 #include <xmmintrin.h>
 
-enum { OPERANDS = 1 << 14, ROUNDS = 300, MOST = 8 };
+enum { OPERANDS = 1 << 14, ROUNDS = 300, MOST = 9 };
 
 // What the calls of a case are given, and where their answers go, so that none can be left out.
 static uint32_t k, n;
@@ -88,6 +88,7 @@ ANSWERED(careful_2, careful_O2_reciprocal)
 ANSWERED(careful_3, careful_O3_reciprocal)
 ANSWERED(bytewise_2, bytewise_O2_reciprocal)
 ANSWERED(bytewise_3, bytewise_O3_reciprocal)
+ANSWERED(apart, apart_reciprocal)
 NODES(library_node, yildegga_node)
 NODES(bound_node, yildegga_bound_node)
 NODES(careful_2_node, careful_O2_node)
@@ -255,21 +256,22 @@ static void same_algorithm(void)
 
 static void instead(uint32_t precision)
 {
-    static const char *const names[] = {"library, all checks",   "C, all checks",           "C, all checks, kept constants", "C, trusted packed image",
-                                        "C, trusted flat table", "64-bit division, called", "64-bit division, in the loop",  "1.0f / x, called"};
+    static const char *const names[] = {"library, all checks",          "C, all checks",           "C, all checks, kept constants",
+                                        "C, all checks, each k apart",  "C, trusted packed image", "C, trusted flat table",
+                                        "64-bit division, called",      "64-bit division, in the loop", "1.0f / x, called"};
     struct {
         double least, ratio;
     } alone[MOST];
     k = precision;
     n = 63;
     table = kept_bind(k, images[k], lengths[k]);
-    CONTEST(at_random, library, careful_2, kept, packed, flat, divided, divided_inline, floated);
+    CONTEST(at_random, library, careful_2, kept, apart, packed, flat, divided, divided_inline, floated);
     for (int c = 0; c < MOST; c++) {
         alone[c].least = result[c].least;
         alone[c].ratio = result[c].ratio;
     }
-    CONTEST(at_random, library_in_turn, careful_2_in_turn, kept_in_turn, packed_in_turn, flat_in_turn, divided_in_turn, divided_inline_in_turn,
-            floated_in_turn);
+    CONTEST(at_random, library_in_turn, careful_2_in_turn, kept_in_turn, apart_in_turn, packed_in_turn, flat_in_turn, divided_in_turn,
+            divided_inline_in_turn, floated_in_turn);
     printf("\nWhat a user would take instead, k = %u, random operands, C at -O2\n\n%-32s %9s %11s   %9s %11s\n", k, "nanoseconds a call", "alone",
            "library:it", "in turn", "library:it");
     for (int c = 0; c < MOST; c++)

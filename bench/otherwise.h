@@ -17,4 +17,7 @@ typedef struct {
 kept_table kept_bind(uint32_t k, const uint8_t *image, size_t length);
 answer kept_reciprocal(const kept_table *table, uint32_t n, uint64_t x);
 
+// The reciprocal with code of its own for each precision, in which shifts, masks and the length are constants; all checks.
+answer apart_reciprocal(uint32_t k, const uint8_t *image, size_t length, uint32_t n, uint64_t x);
+
 #endif
