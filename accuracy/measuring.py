@@ -2,11 +2,15 @@
 import functools
 import pathlib
 import subprocess
+import sys
 from collections import namedtuple
 from fractions import Fraction
 
 ROOT = pathlib.Path(__file__).resolve().parent.parent
-ARCHIVE = ROOT / "target" / "staticlib" / "libyildegga.a"
+sys.path.insert(0, str(ROOT / "tests"))
+
+from archives import archive  # noqa: E402
+
 PROGRAM = ROOT / "target" / "accuracy" / "measure"
 PARTS = 2 ** 32  # lengths are printed in these parts of the distance from one cut operand to the next
 
@@ -19,17 +23,11 @@ def command(*words):
     assert done.returncode == 0, f"{words[0]} ended with status {done.returncode}: {done.stdout[-400:]}"
 
 
-def make_archive():
-    command("rt", "staticlib", "yildegga")
-
-
 @functools.cache
 def program():
     """The measuring program, built now."""
-    if not ARCHIVE.is_file():
-        make_archive()
     PROGRAM.parent.mkdir(parents=True, exist_ok=True)
-    command("gcc", "-std=c11", "-O2", "-Wall", "-Wextra", "-Wpedantic", "-Werror", "-Ic/include", "-o", PROGRAM, "accuracy/measure.c", ARCHIVE)
+    command("gcc", "-std=c11", "-O2", "-Wall", "-Wextra", "-Wpedantic", "-Werror", "-Ic/include", "-o", PROGRAM, "accuracy/measure.c", archive())
     return PROGRAM
 
 

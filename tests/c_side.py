@@ -73,7 +73,6 @@ CONSTANTS = {"SERVED": 0, "PRECISION": 1, "SHORT_BUFFER": 2, "NODE_NUMBER": 3, "
              "LEAST_PRECISION": 1, "GREATEST_PRECISION": 12, "LONGEST_IMAGE": 13312, "MOST_FRACTION_BITS": 63,
              "TABLE_UNITS_IN_ULP": 4}  # as document 01 has them
 NUMBERS = {"build": {0, 1, 2}, "check": {0, 1, 2, 6}, "node": {0, 1, 2, 3, 6}, "reciprocal": {0, 1, 2, 4, 5, 6}}
-NUMBERS.update({f"bound_{call}": NUMBERS[call] for call in ("node", "reciprocal")})
 
 
 @functools.cache
@@ -130,7 +129,7 @@ def calls_compared():
         expected = " ".join(map(str, answer(call, k, buffer, numbers)))
         if line != expected:
             return f"precision {k}, {len(buffer)} bytes: printed {line[:100]!r}, expected {expected[:100]!r}"
-        asked[call].add(int(words[{"build": 0, "check": 0, "node": 1, "bound_node": 1}.get(call, 2)]))
+        asked[call].add(int(words[{"build": 0, "check": 0, "node": 1}.get(call, 2)]))
     if not {*range(15), 2 ** 32 - 1} <= asked["lent"] or not {*range(21), 2 ** 32 - 1} <= asked["null"]:
         return f"the precisions are {asked['lent']}, with no buffer {asked['null']}"
     short = {call: asked[call] for call in NUMBERS if asked[call] != NUMBERS[call]}
@@ -172,7 +171,7 @@ def memory_checked():
 
 def past_image():
     """No byte past the image is read or written, where the buffer is longer."""
-    calls = 12 * 2 + 5 * sum(2 ** k for k in range(1, 13))
+    calls = 12 * 2 + 3 * sum(2 ** k for k in range(1, 13))
     found = well(built("past_image"))
     return None if found == f"{calls} of {calls}\n" else f"served were {found}"
 

@@ -4,11 +4,12 @@ import functools
 import os
 import pathlib
 import re
-import shutil
 import subprocess
 
+from archives import archive
+from c_build import need
+
 ROOT = pathlib.Path(__file__).resolve().parent.parent
-ARCHIVE = ROOT / "target" / "staticlib" / "libyildegga.a"
 BUILT = ROOT / "target" / "cargo"
 
 # The parts of a run, each with the cases that it has at least.
@@ -53,24 +54,13 @@ def well(*words, **more):
 
 @functools.cache
 def program():
-    """The comparing program, linked with the archive, which is made where it is absent or older than the code."""
-    code = max(path.stat().st_mtime for path in (ROOT / "crates").rglob("*.rt"))
-    if not ARCHIVE.is_file() or ARCHIVE.stat().st_mtime < code:
-        well("rt", "staticlib", "yildegga")
+    """The comparing program, linked with the archives of the library and of the calls through a bound table."""
+    archive("yildegga")
+    archive("yildegga_bound")
     given = {name: value for name, value in os.environ.items() if name != "YILDEGGA_LIB_DIR"}
     given |= {"CARGO_TARGET_DIR": str(BUILT), "RUSTFLAGS": "-D warnings"}
     well("cargo", "build", "--release", "--offline", "--locked", "--manifest-path", "tests/compare/Cargo.toml", env=given)
     return BUILT / "release" / "compare"
-
-
-def valgrind():
-    """valgrind by its name; where the machine has none, Debian's package is installed."""
-    if not shutil.which("valgrind"):
-        install = ["apt-get", "install", "-y", "--no-install-recommends", "valgrind"]
-        if run(*install).returncode:
-            well("apt-get", "update")
-            well(*install)
-    return "valgrind"
 
 
 @functools.cache
@@ -80,7 +70,7 @@ def whole_run():
 
 @functools.cache
 def memory_run():
-    return run(valgrind(), "--quiet", "--error-exitcode=9", program(), "memory")
+    return run(need("valgrind", "valgrind"), "--quiet", "--error-exitcode=9", program(), "memory")
 
 
 def counts(done):

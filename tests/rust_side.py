@@ -8,10 +8,10 @@ import subprocess
 import tempfile
 
 import reference
+from archives import archive
 
 ROOT = pathlib.Path(__file__).resolve().parent.parent
 RUST = ROOT / "rust"
-ARCHIVE = ROOT / "target" / "staticlib" / "libyildegga.a"
 BUILT = ROOT / "target" / "cargo"
 DECLARATIONS = RUST / "sys" / "src" / "lib.rs"  # the one file with unsafe code
 
@@ -23,14 +23,6 @@ def run(words, cwd=ROOT, stdin=b"", **more):
 def end(done):
     """None where a command ended well, else the last that it said."""
     return None if done.returncode == 0 else f"status {done.returncode}: {(done.stderr + done.stdout).decode()[-1500:]}"
-
-
-@functools.cache
-def archive():
-    """Makes the archive where it is absent."""
-    if not ARCHIVE.is_file():
-        why = end(run(["rt", "staticlib", "yildegga"]))
-        assert why is None, why
 
 
 def cargo(*words, **variables):
@@ -202,7 +194,7 @@ def archive_found():
         absent = build()
         if absent.returncode == 0 or b"rt staticlib yildegga" not in absent.stderr or b"YILDEGGA_LIB_DIR" not in absent.stderr:
             return f"with no archive: status {absent.returncode}, {absent.stderr[-400:]!r}"
-        (lib / "libyildegga.a").write_bytes(ARCHIVE.read_bytes())
+        (lib / "libyildegga.a").write_bytes(archive().read_bytes())
         why = end(build())
         if why or order() != reference.image(2):
             return why or f"ordered {order()!r}"

@@ -9,7 +9,7 @@
  * applies, in the order of their numbers, and with every lent byte left as it was. These promises are proved. What the proofs
  * cannot check is the caller's part:
  *   - `image` points to `length` bytes that belong to the caller, for writing in yildegga_build and for reading elsewhere. They
- *     may be more than the image has: those past it are never written, and no answer depends on them.
+ *     may be more than the image has: those past it are neither read nor written.
  *   - Nothing else writes these bytes during a call, and nothing else reads them while yildegga_build writes them. The library
  *     keeps no state, so calls on other bytes, and calls that only read, may run at once in several threads.
  *   - The bytes do not overlap the object that takes the answer.
@@ -95,10 +95,6 @@ yildegga_part yildegga_word_bytes(uint32_t k, const uint8_t *image, size_t lengt
 /* The reciprocal of x with n fraction bits, from 2^(2k) to 2^(2k+1) ulps, by the nodes on both sides of x, whose words are judged.
    Refusals: 1, 2, 4, 5, 6. */
 yildegga_reciprocal_given yildegga_reciprocal(uint32_t k, const uint8_t *image, size_t length, uint32_t n, uint64_t x);
-
-/* The answers of yildegga_node and of yildegga_reciprocal, got through a bound table. */
-yildegga_node_read yildegga_bound_node(uint32_t k, const uint8_t *image, size_t length, uint32_t j);
-yildegga_reciprocal_given yildegga_bound_reciprocal(uint32_t k, const uint8_t *image, size_t length, uint32_t n, uint64_t x);
 
 #ifdef __cplusplus
 }

@@ -1,5 +1,5 @@
 //! The bound table.
-use crate::refusal::{served, Refused};
+use crate::refusal::Refused;
 use crate::units::{TableUnits, Ulps};
 
 /// A lent image and its precision, kept together for many operands.
@@ -50,7 +50,7 @@ impl<'a> BoundTable<'a> {
     /// ```
     #[inline]
     pub fn node(&self, j: u32) -> Result<TableUnits, Refused> {
-        served(yildegga_sys::bound_node(self.k, self.image, j)).map(TableUnits)
+        crate::node(self.k, self.image, j)
     }
 
     /// What [`reciprocal`](crate::reciprocal()) gives with this precision and image.
@@ -67,6 +67,6 @@ impl<'a> BoundTable<'a> {
     /// ```
     #[inline]
     pub fn reciprocal(&self, n: u32, x: u64) -> Result<Ulps, Refused> {
-        served(yildegga_sys::bound_reciprocal(self.k, self.image, n, x)).map(Ulps)
+        crate::reciprocal(self.k, self.image, n, x)
     }
 }

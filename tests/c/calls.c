@@ -97,9 +97,6 @@ static void nodes(uint32_t k, uint32_t j)
     printf("node %" PRIu32 " ", j);
     node(yildegga_node(k, lent, length, j));
     see_kept("node", k, 0);
-    printf("\nbound_node %" PRIu32 " ", j);
-    node(yildegga_bound_node(k, lent, length, j));
-    see_kept("bound_node", k, 0);
     yildegga_part part = yildegga_word_bytes(k, lent, length, j);
     see_kept("word_bytes", k, 0);
     printf("\nword_bytes %" PRIu32 " %zu %zu", j, part.offset, part.count);
@@ -111,9 +108,6 @@ static void reciprocals(uint32_t k, uint32_t n, uint64_t x)
     printf("reciprocal %" PRIu32 " %" PRIu64 " ", n, x);
     given(yildegga_reciprocal(k, lent, length, n, x));
     see_kept("reciprocal", k, 0);
-    printf("bound_reciprocal %" PRIu32 " %" PRIu64 " ", n, x);
-    given(yildegga_bound_reciprocal(k, lent, length, n, x));
-    see_kept("bound_reciprocal", k, 0);
 }
 
 /* ---- the cases */
@@ -177,13 +171,9 @@ static void null_buffer(uint32_t k)
     done(yildegga_check(k, NULL, 0));
     printf("\nnode 0 ");
     node(yildegga_node(k, NULL, 0, 0));
-    printf("\nbound_node 0 ");
-    node(yildegga_bound_node(k, NULL, 0, 0));
     yildegga_part part = yildegga_word_bytes(k, NULL, 0, 0);
     printf("\nword_bytes 0 %zu %zu \nreciprocal 63 %" PRIu64 " ", part.offset, part.count, MOST_64);
     given(yildegga_reciprocal(k, NULL, 0, 63, MOST_64));
-    printf("bound_reciprocal 63 %" PRIu64 " ", MOST_64);
-    given(yildegga_bound_reciprocal(k, NULL, 0, 63, MOST_64));
 }
 
 #define CONSTANT(name) printf("constant " #name " %u\n", YILDEGGA_##name)

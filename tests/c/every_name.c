@@ -45,9 +45,8 @@ int main(void)
     image[2] ^= 1;
 
     yildegga_node_read node = yildegga_node(k, image, sizeof image, YILDEGGA_LAST_NODE(k));
-    yildegga_node_read bound_node = yildegga_bound_node(k, image, sizeof image, 0);
     yildegga_table_units units = node.value;
-    if (units.count != 64 || bound_node.value.count != 128)
+    if (units.count != 64)
         return 5;
 
     yildegga_part part = yildegga_word_bytes(k, image, sizeof image, 1);
@@ -55,9 +54,8 @@ int main(void)
         return 6;
 
     yildegga_reciprocal_given given = yildegga_reciprocal(k, image, sizeof image, n, 135);
-    yildegga_reciprocal_given bound = yildegga_bound_reciprocal(k, image, sizeof image, n, 255);
     yildegga_ulps ulps = given.value;
-    if (ulps.count * YILDEGGA_TABLE_UNITS_IN_ULP != 120 || bound.value.count != 16)
+    if (ulps.count * YILDEGGA_TABLE_UNITS_IN_ULP != 120)
         return 7;
     return 0;
 }

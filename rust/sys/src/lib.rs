@@ -49,8 +49,6 @@ extern "C" {
     fn yildegga_node(k: u32, image: *const u8, length: usize, j: u32) -> Answer;
     fn yildegga_word_bytes(k: u32, image: *const u8, length: usize, j: u32) -> Part;
     fn yildegga_reciprocal(k: u32, image: *const u8, length: usize, n: u32, x: u64) -> Answer;
-    fn yildegga_bound_node(k: u32, image: *const u8, length: usize, j: u32) -> Answer;
-    fn yildegga_bound_reciprocal(k: u32, image: *const u8, length: usize, n: u32, x: u64) -> Answer;
 }
 
 /// The bytes of the image of precision k, 0 where k is no precision.
@@ -93,18 +91,4 @@ pub fn word_bytes(k: u32, image: &[u8], j: u32) -> Part {
 pub fn reciprocal(k: u32, image: &[u8], n: u32, x: u64) -> Answer {
     // SAFETY: pointer and length are those of one slice.
     unsafe { yildegga_reciprocal(k, image.as_ptr(), image.len(), n, x) }
-}
-
-/// What [`node`] gives, through a bound table.
-#[inline]
-pub fn bound_node(k: u32, image: &[u8], j: u32) -> Answer {
-    // SAFETY: pointer and length are those of one slice.
-    unsafe { yildegga_bound_node(k, image.as_ptr(), image.len(), j) }
-}
-
-/// What [`reciprocal`] gives, through a bound table.
-#[inline]
-pub fn bound_reciprocal(k: u32, image: &[u8], n: u32, x: u64) -> Answer {
-    // SAFETY: pointer and length are those of one slice.
-    unsafe { yildegga_bound_reciprocal(k, image.as_ptr(), image.len(), n, x) }
 }
