@@ -9,11 +9,11 @@ use native.Mathlib.Numerals.{add-one}
 use native.Mathlib.Omega.{arith}
 use lib.Arith.{digits-lt}
 use lib.ListN.{length, drop, set, getD, length-append, length-drop}
-use lib.Pow.{pow-add, pow-mono, pow-pos, shr-shr}
+use lib.Pow.{pow-add, pow-mono, pow-pos, shr-shr, field, mod-mod-pow}
 use lib.Seq.{set-at, drop-cons}
 use Rattle.packing.specs.Packing.{packed, toBytes, byteCount, fillBits, packedBytes}
 use Rattle.packing.proofs.Bytes.{length-toBytes}
-use Rattle.packing.proofs.Giving.{take-high, take-low, give-byte, give-high, give-rest, give-last, last-small}
+use Rattle.packing.proofs.Giving.{take-high, take-low, give-byte, give-last, last-small}
 
 -- of n words, j are taken in: `at` bytes of them are written over the buffer's first list, and `left` bits wait
 pub record Filling (w n : ℕ) (f : ℕ → ℕ) (before now : List ℕ) (waiting left at j : ℕ) : Type 0 where
@@ -64,14 +64,14 @@ module _ {w n : ℕ} {f : ℕ → ℕ} {before now : List ℕ} {waiting left at 
         room = s .room;
         place = omega (arith, s .place);
         short = omega (arith, s .short);
-        bits = sym (give-rest waiting k) ∙ ap (λ (x : ℕ). x % 2 ^ k) waits ∙ give-rest (packed w f j) k;
+        bits = sym (mod-mod-pow waiting 8 k) ∙ ap (λ (x : ℕ). x % 2 ^ k) waits ∙ mod-mod-pow (packed w f j) 8 k;
         bytes =
             ap (λ (l : List ℕ). set l at b) (s .bytes)
             ∙ write-next (toBytes at (packed w f j / 2 ^ left)) before at b (length-toBytes at _) (omega (arith, has-room 1 (omega arith)))
             ∙ ap (λ (l : List ℕ). l ++ drop (at + 1) before)
             (ap₂ (λ (x y : ℕ). toBytes at (packed w f j / 2 ^ x) ++ (y ∷ []))
             h
-            (e ∙ give-high waiting k ∙ ap (λ (x : ℕ). x / 2 ^ k) waits)
+            (e ∙ sym (field waiting 8 k) ∙ ap (λ (x : ℕ). x / 2 ^ k) waits)
             ∙ sym (give-byte at (packed w f j) k));
       }
     where

@@ -7,7 +7,7 @@ use mathlib.Core.List.{[], _∷_, _++_}
 use native.Mathlib.Nat.{add-comm, add-zero, mod-lt, mul-mod-left, mul-div-mul-right}
 use native.Mathlib.Numerals.{add-one}
 use native.Mathlib.Omega.{arith}
-use lib.Pow.{pow-pos, pow-add, high, low, shl-lt, shl-shr, shr-shr, field, mod-pow-add, mod-mod-pow}
+use lib.Pow.{pow-pos, pow-add, high, low, shl-lt, shl-shr, shr-shr, field, mod-pow-add}
 use Rattle.packing.specs.Packing.{toBytes}
 
 -- a word v of w bits is taken: the bytes stay, and the bits that wait are followed by the word
@@ -25,14 +25,6 @@ pub give-byte : (at p k : ℕ) → toBytes (at + 1) (p / 2 ^ k) ≡ toBytes at (
 give-byte at p k =
     ap (λ (n : ℕ). toBytes n (p / 2 ^ k)) (add-one at)
     ∙ ap₂ (λ (x y : ℕ). toBytes at x ++ (y ∷ [])) (shr-shr p k 8 ∙ ap (λ (x : ℕ). p / 2 ^ x) (add-comm k 8)) (sym (field p 8 k))
-
--- the same byte, of a number whose bits above those that wait are still there
-pub give-high : (p k : ℕ) → p / 2 ^ k % 256 ≡ (p % 2 ^ (8 + k)) / 2 ^ k
-give-high p k = sym (field p 8 k)
-
--- the bits below it wait on
-pub give-rest : (p k : ℕ) → (p % 2 ^ (8 + k)) % 2 ^ k ≡ p % 2 ^ k
-give-rest p k = mod-mod-pow p 8 k
 
 -- the last byte: fewer than 8 bits wait, and zero bits fill it
 pub give-last : (at p left : ℕ) → left < 8

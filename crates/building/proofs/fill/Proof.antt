@@ -1,4 +1,4 @@
--- `building::fill` meets its contract: each turn of its loop gives a byte or takes a word, by the laws of `Filling`.
+-- `building::fill` meets its contract: each turn of its loop gives four bytes, takes a word or gives a byte, by the laws of `Filling`.
 -- The measure counts each word to come as one bit more than its width, and each bit that waits as one.
 -- Assumes nothing.
 use mathlib.Core.Path.{_≡_, _∙_, ap}
