@@ -1,14 +1,30 @@
 // Building the image of a precision in a lent buffer.
 ghost use mathlib.Core.Path.{_≡_};
 ghost use mathlib.Core.List.{_++_};
-ghost use Prim.Native.Nat.{ℕ, _+_, _*_, _^_, _%_, _≤_, _<_};
-ghost use lib.ListN.{length, drop};
+ghost use Prim.Native.Nat.{ℕ, _+_, _*_, _/_, _%_, _^_, _≤_, _<_};
+ghost use lib.ListN.{length, drop, set};
 ghost use Rattle.quotient.specs.Quotient.{roundedUp};
 ghost use Rattle.packing.specs.Packing.{packedBytes, byteCount};
 ghost use Rattle.answers.specs.Answer.{done};
 ghost use Rattle.image.specs.Calls.{buildOutcome, buildLeaves};
 use answers::Done;
 use precision::Precision;
+
+// x without its lowest `count` bits.
+fn above(x: u64, count: u32) -> u64
+    requires { ⌜ count < 64 ⌝ }
+    ensures { λ r. ⌜ r ≡ x / 2 ^ count ⌝ }
+{
+    x >> count
+}
+
+// The lowest `count` bits of x.
+fn below(x: u64, count: u32) -> u64
+    requires { ⌜ count < 64 ⌝ }
+    ensures { λ r. ⌜ r ≡ x % 2 ^ count ⌝ }
+{
+    x % (1 << count)
+}
 
 // Takes `word` in behind the bits that wait.
 fn joined(waiting: u64, width: u32, word: u64) -> u64
@@ -18,11 +34,22 @@ fn joined(waiting: u64, width: u32, word: u64) -> u64
     (waiting << width) + word
 }
 
+// Writes the lowest 32 bits of `four` as four bytes from `at` on, the highest first. The stores stand in a row, so that they become one.
+fn put_four(image: &mut [u8], at: usize, four: u64)
+    requires { ⌜ at + 4 ≤ length (now image) ⌝ }
+    ensures { λ r. ⌜ now (image .exit) ≡ set (set (set (set (now (image .entry)) at (four / 16777216 % 256)) (at + 1) (four / 65536 % 256)) (at + 2) (four / 256 % 256)) (at + 3) (four % 256) ⌝ }
+{
+    image[at] = (four / 16777216 % 256) as u8;
+    image[at + 1] = (four / 65536 % 256) as u8;
+    image[at + 2] = (four / 256 % 256) as u8;
+    image[at + 3] = (four % 256) as u8;
+}
+
 // Writes `count` words of `width` bits at the front of the buffer: numerator / (first + j) rounded up, its lowest bits, for each j.
-// The bits that wait for a whole byte are kept beside the buffer, which is not read; those above them, which are written, are dropped when
-// the next word comes.
+// The bits that wait for their bytes are kept beside the buffer, which is not read; those above them, which are written, are dropped when
+// the next word comes. Four bytes are written at once while there are as many, and the last ones one by one.
 fn fill(image: &mut [u8], width: u32, count: u32, numerator: u64, first: u32)
-    requires { ⌜ (1 ≤ width) × (width ≤ 56) × (first + count < 2 ^ 32) × (byteCount width count ≤ length (now image)) ⌝ }
+    requires { ⌜ (1 ≤ width) × (width ≤ 32) × (first + count < 2 ^ 32) × (byteCount width count ≤ length (now image)) ⌝ }
     ensures { λ r. ⌜ now (image .exit) ≡ packedBytes width (λ (j : ℕ). roundedUp numerator (first + j) % 2 ^ width) count ++ drop (byteCount width count) (now (image .entry)) ⌝ }
 {
     let mut waiting: u64 = 0;
@@ -30,21 +57,25 @@ fn fill(image: &mut [u8], width: u32, count: u32, numerator: u64, first: u32)
     let mut at: usize = 0;
     let mut j: u32 = 0;
     loop {
-        if 8 <= left {
-            left -= 8;
-            image[at] = (bits::high(waiting, left) % 256) as u8;
-            at += 1;
+        if 32 <= left {
+            left -= 32;
+            put_four(image, at, above(waiting, left));
+            at += 4;
         } else if j < count {
-            let word = bits::low(quotient::rounded_up(numerator, first + j), width);
-            waiting = joined(bits::low(waiting, left), width, word);
+            let word = below(quotient::rounded_up(numerator, first + j), width);
+            waiting = joined(below(waiting, left), width, word);
             left += width;
             j += 1;
+        } else if 8 <= left {
+            left -= 8;
+            image[at] = (above(waiting, left) % 256) as u8;
+            at += 1;
         } else {
             break;
         }
     }
     if left != 0 {
-        image[at] = (joined(bits::low(waiting, left), 8 - left, 0) % 256) as u8;
+        image[at] = (joined(below(waiting, left), 8 - left, 0) % 256) as u8;
     }
 }
 

@@ -1,13 +1,13 @@
 -- Packing from the front with an accumulator: `left` bits of P wait, the bits before them stand as bytes. What taking a word
 -- and giving a byte do to the three.
 -- Assumes nothing.
-use Prim.Native.Nat.{ℕ, _+_, _-_, _*_, _/_, _%_, _^_, _≤_, _<_}
+use Prim.Native.Nat.{ℕ, _+_, _-_, _*_, _/_, _%_, _^_, _<_}
 use mathlib.Core.Path.{_≡_, sym, ap, ap₂, _∙_, subst}
 use mathlib.Core.List.{[], _∷_, _++_}
 use native.Mathlib.Nat.{add-comm, add-zero, mod-lt, mul-mod-left, mul-div-mul-right}
 use native.Mathlib.Numerals.{add-one}
 use native.Mathlib.Omega.{arith}
-use lib.Pow.{pow-pos, pow-add, high, low, shl-lt, shl-shr, shr-shr, field, mod-pow-add, mod-mod-pow}
+use lib.Pow.{pow-pos, pow-add, high, low, shl-lt, shl-shr, shr-shr, field, mod-pow-add}
 use Rattle.packing.specs.Packing.{toBytes}
 
 -- a word v of w bits is taken: the bytes stay, and the bits that wait are followed by the word
@@ -20,25 +20,11 @@ pub take-low : (p v w left : ℕ) → v < 2 ^ w → (p * 2 ^ w + v) % 2 ^ (left 
 take-low p v w left h =
     mod-pow-add (p * 2 ^ w + v) left w ∙ ap₂ (λ (x y : ℕ). (x % 2 ^ left) * 2 ^ w + y) (high p w h) (low p w h)
 
--- a byte is given: the highest 8 of the bits that wait
-give : (at p k : ℕ) → toBytes (at + 1) (p / 2 ^ k) ≡ toBytes at (p / 2 ^ (8 + k)) ++ ((p % 2 ^ (8 + k)) / 2 ^ k ∷ [])
-give at p k =
+-- a byte is given: the highest 8 of the bits that wait, with k behind them
+pub give-byte : (at p k : ℕ) → toBytes (at + 1) (p / 2 ^ k) ≡ toBytes at (p / 2 ^ (8 + k)) ++ ((p % 2 ^ (8 + k)) / 2 ^ k ∷ [])
+give-byte at p k =
     ap (λ (n : ℕ). toBytes n (p / 2 ^ k)) (add-one at)
     ∙ ap₂ (λ (x y : ℕ). toBytes at x ++ (y ∷ [])) (shr-shr p k 8 ∙ ap (λ (x : ℕ). p / 2 ^ x) (add-comm k 8)) (sym (field p 8 k))
-
-pub give-byte : (at p left : ℕ) → 8 ≤ left
-    → toBytes (at + 1) (p / 2 ^ (left - 8)) ≡ toBytes at (p / 2 ^ left) ++ ((p % 2 ^ left) / 2 ^ (left - 8) ∷ [])
-give-byte at p left h =
-    give at p (left - 8)
-    ∙ ap (λ (x : ℕ). toBytes at (p / 2 ^ x) ++ ((p % 2 ^ x) / 2 ^ (left - 8) ∷ [])) (omega arith)
-
--- the same byte, of a number whose bits above those that wait are still there
-pub give-high : (p left : ℕ) → 8 ≤ left → p / 2 ^ (left - 8) % 256 ≡ (p % 2 ^ left) / 2 ^ (left - 8)
-give-high p left h = sym (field p 8 (left - 8)) ∙ ap (λ (x : ℕ). (p % 2 ^ x) / 2 ^ (left - 8)) (omega arith)
-
--- the bits below it wait on
-pub give-rest : (p left : ℕ) → 8 ≤ left → (p % 2 ^ left) % 2 ^ (left - 8) ≡ p % 2 ^ (left - 8)
-give-rest p left h = ap (λ (x : ℕ). (p % 2 ^ x) % 2 ^ (left - 8)) (omega arith) ∙ mod-mod-pow p 8 (left - 8)
 
 -- the last byte: fewer than 8 bits wait, and zero bits fill it
 pub give-last : (at p left : ℕ) → left < 8
