@@ -1,7 +1,6 @@
 // Checking an image against the construction.
 ghost use mathlib.Core.Path.{_≡_};
 ghost use Prim.Native.Nat.{ℕ, _+_, _*_, _%_, _^_, _≤_, _<_};
-ghost use lib.ListN.{length};
 ghost use Rattle.quotient.specs.Quotient.{roundedUp};
 ghost use Rattle.answers.specs.Answer.{done};
 ghost use Rattle.image.specs.Image.{firstWrongWord};
@@ -11,18 +10,23 @@ use answers::Done;
 use precision::Precision;
 
 // The lowest of `count` words of `width` bits that is not numerator / (first + j) rounded up, modulo 2^width, and `count` where none is.
-// Every word up to there is read.
+// Every word up to there is read, and the words are read by twos: one reading has two of them, and there is an even number of them.
 fn first_wrong(image: &[u8], width: u32, count: u32, numerator: u64, first: u32, lead: u32) -> u32
-    requires { ⌜ AreWords (now image) width count numerator first lead ⌝ }
+    requires { ⌜ AreWords width count numerator first lead ⌝ }
     ensures { λ r. ⌜ r ≡ firstWrongWord width (λ (j : ℕ). roundedUp numerator (first + j) % 2 ^ width) count (now (image .entry)) ⌝ }
 {
     let mut j: u32 = 0;
     while j < count {
-        let c = image::judged_word(image, width, numerator, first, lead, j);
-        if c.0 == 0 {
+        let both = packing::field(image, (j as u64) * (width as u64), 2 * width);
+        let even = nodes::judge(numerator, first, lead, j, bits::high(both, width) as u32);
+        if even.0 == 0 {
             return j;
         }
-        j += 1;
+        let odd = nodes::judge(numerator, first, lead, j + 1, bits::low(both, width) as u32);
+        if odd.0 == 0 {
+            return j + 1;
+        }
+        j += 2;
     }
     count
 }
