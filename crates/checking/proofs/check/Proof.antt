@@ -6,11 +6,13 @@ use Prim.Native.Nat.{ℕ, zero, suc, _+_, _*_, _%_, _^_, _≤_, _<_}
 use native.Mathlib.Nat.{not-suc-le-zero, pow-suc}
 use native.Mathlib.Omega.{arith}
 use lib.ListN.{length}
+use lib.Pow.{pow-mono}
 use borrow.Author.Needs.{needs}
 use borrow.Author.Tests.{lt-ltb, le-ltb}
 use Rattle.quotient.specs.Quotient.{roundedUp}
 use Rattle.nodes.specs.Nodes.{storedWord}
-use Rattle.nodes.proofs.Nodes.{judged-zero}
+use Rattle.nodes.proofs.Laws.{decode-le, judges}
+use Rattle.nodes.proofs.Powers.{numerator, shape}
 use Rattle.answers.specs.Answer.{done}
 use Rattle.image.specs.Image.{firstWrongWord, firstWrong}
 use Rattle.image.specs.Refusals.{brokenLimit, imageRefusal}
@@ -35,11 +37,16 @@ count-even (suc q) h = omega (arith, pow-suc 2 q)
 
 are-words : (k : ℕ) → 1 ≤ k → k ≤ 12 → AreWords (2 * k + 2) (2 ^ k) (2 ^ (3 * k + 3)) (2 ^ k) (2 ^ (2 * k + 2))
 are-words k low high =
+    let top : 3 * k + 3 ≤ 39 = omega arith in
+    let wide : 2 * k + 2 ≤ 26 = omega arith in
     record {
       one = omega arith;
       two = omega arith;
       even = count-even k low;
-      judges = λ j word h l. judged-zero k (omega arith) j word h l;
+      numerator = omega (arith, pow-mono top);
+      divisors = omega (arith, pow-mono high);
+      values = λ j word l. omega (arith, decode-le (2 ^ (2 * k + 2)) j word l, pow-mono wide);
+      judges = λ j word h l. rw (numerator k 2) (judges (shape k 2 (omega arith)) j word h l);
     }
 
 -- the lowest wrong word, by the numbers that are handed on

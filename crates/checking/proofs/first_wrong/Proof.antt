@@ -2,16 +2,18 @@
 -- words left.
 -- Assumes nothing.
 use mathlib.Core.Path.{_≡_, sym, ap, _∙_}
-use mathlib.Core.Bool.{false}
+use mathlib.Core.Bool.{Bool, false, not}
 use mathlib.Core.List.{List}
 use Prim.Native.Nat.{ℕ, _+_, _-_, _/_, _%_, _^_, _≤_, _<_}
 use native.Mathlib.Nat.{mul-le-mul}
 use native.Mathlib.Omega.{arith}
 use borrow.Author.Needs.{needs}
 use borrow.Author.Count.{below-none, below-more}
+use Rattle.nodes.specs.Nodes.{decodeUnder}
 use Rattle.packing.specs.Packing.{Bytes, wordAt}
+use Rattle.packing.proofs.Words.{word-lt}
 use Rattle.image.proofs.Lowest.{lowest-is, lowest-none}
-use Rattle.checking.proofs.Twos.{wrong, word-fits, first-of, second-of, is-wrong, is-right}
+use Rattle.checking.proofs.Twos.{wrong, word-fits, first-of, second-of, test-tells}
 use Rattle.checking.proofs.first_wrong.Statement.{statement}
 use Rattle.checking.proofs.first_wrong.Tie as tie
 
@@ -42,7 +44,15 @@ bytes c i = omega (arith, c .before .before .shared-slice-known .given i)
 both-there : (c : Turn) → j c + 1 < start c .args .count
 both-there c = omega (arith, c .before .loop .inv .0, start c .pre .even, c .loop-test .taken)
 
--- the first word, and what it is judged to be
+-- a word has its place in 32 bits, and so has what it stands for
+fits : (c : Turn) (i : ℕ) {word : ℕ} → word ≡ wordAt (start c .args .width) (s c) i → decodeUnder (start c .args .lead) i word < 2 ^ 32
+fits c i is = rw is (start c .pre .values i (wordAt (start c .args .width) (s c) i) (word-lt (start c .args .width) (s c) i))
+
+-- word i is wrong
+abbrev is-wrong : Turn → ℕ → Bool
+is-wrong c i = wrong (s c) (start c .args .width) (start c .args .numerator) (start c .args .first) i
+
+-- the first word, and what the test says of it
 abbrev turn1 : tie.After-high Inv-loop μ-loop → Turn
 turn1 c = c .before .before
 
@@ -53,23 +63,19 @@ first-word c =
     ∙ ap (λ (x : ℕ). x / 2 ^ start at .args .width) (c .before .field .ensures .0)
     ∙ first-of (start at .pre) (s at) (bytes at) (j at)
 
--- behind the first test it is right
+first-test : (c : tie.After-rounds-up Inv-loop μ-loop) → is-wrong (turn1 (c .before .before)) (j (turn1 (c .before .before))) ≡ not (c .rounds-up .result)
+first-test c =
+    let at = turn1 (c .before .before) in
+    test-tells (start at .pre) (s at) (j at) (omega (arith, both-there at)) (first-word (c .before .before)) (c .before .decoded .ensures) (c .rounds-up .ensures)
+
+-- behind the first test no word up to it is wrong
 abbrev turn2 : tie.Else1 Inv-loop μ-loop → Turn
 turn2 c = turn1 (c .before .before .before)
 
-first-right : (c : tie.Else1 Inv-loop μ-loop)
-    → wrong (s (turn2 c)) (start (turn2 c) .args .width) (start (turn2 c) .args .numerator) (start (turn2 c) .args .first) (j (turn2 c)) ≡ false
-first-right c =
-    let at = turn2 c in
-    let judged = c .before .before in
-    is-right (start at .pre) (s at) (j at) (omega (arith, both-there at)) (first-word (judged .before)) (judged .judge .ensures) (c .if1 .left)
+up-to-first : (c : tie.Else1 Inv-loop μ-loop) → (i : ℕ) → i < j (turn2 c) + 1 → is-wrong (turn2 c) i ≡ false
+up-to-first c = below-more _ _ (turn2 c .before .loop .inv .2) (first-test (c .before) ∙ c .if1 .left)
 
--- so no word up to it is wrong
-up-to-first : (c : tie.Else1 Inv-loop μ-loop)
-    → (i : ℕ) → i < j (turn2 c) + 1 → wrong (s (turn2 c)) (start (turn2 c) .args .width) (start (turn2 c) .args .numerator) (start (turn2 c) .args .first) i ≡ false
-up-to-first c = below-more _ _ (turn2 c .before .loop .inv .2) (first-right c)
-
--- the second word
+-- the second word, and what the test says of it
 second-word : (c : tie.After-low Inv-loop μ-loop)
     → c .low .result ≡ wordAt (start (turn2 (c .before)) .args .width) (s (turn2 (c .before))) (j (turn2 (c .before)) + 1)
 second-word c =
@@ -77,6 +83,14 @@ second-word c =
     c .low .ensures
     ∙ ap (λ (x : ℕ). x % 2 ^ start at .args .width) (c .before .before .before .before .before .field .ensures .0)
     ∙ second-of (start at .pre) (s at) (bytes at) (j at)
+
+abbrev turn3 : tie.After-rounds-up2 Inv-loop μ-loop → Turn
+turn3 c = turn2 (c .before .before .before)
+
+second-test : (c : tie.After-rounds-up2 Inv-loop μ-loop) → is-wrong (turn3 c) (j (turn3 c) + 1) ≡ not (c .rounds-up2 .result)
+second-test c =
+    let at = turn3 c in
+    test-tells (start at .pre) (s at) (j at + 1) (both-there at) (second-word (c .before .before)) (c .before .decoded2 .ensures) (c .rounds-up2 .ensures)
 
 loop-holds : tie.Need-loop-holds Inv-loop μ-loop
 loop-holds c = (omega arith, omega arith, below-none _)
@@ -99,66 +113,70 @@ field-requires c κs = search needs
 high-requires : tie.Need-high-requires Inv-loop μ-loop
 high-requires c κs = search needs
 
-cast-judge : tie.Need-cast-judge Inv-loop μ-loop
-cast-judge c =
+cast-decoded : tie.Need-cast-decoded Inv-loop μ-loop
+cast-decoded c =
     let at = turn1 c in
     omega (arith, first-word c, word-fits (start at .pre) (s at) (j at))
 
-judge-requires : tie.Need-judge-requires Inv-loop μ-loop
-judge-requires c κs = search needs
+decoded-requires : tie.Need-decoded-requires Inv-loop μ-loop
+decoded-requires c κs = fits (turn1 c) (j (turn1 c)) (first-word c)
+
+add-rounds-up : tie.Need-add-rounds-up Inv-loop μ-loop
+add-rounds-up c = let at = turn1 (c .before) in omega (arith, start at .pre .divisors, both-there at)
+
+rounds-up-requires : tie.Need-rounds-up-requires Inv-loop μ-loop
+rounds-up-requires c κs = let at = turn1 (c .before) in omega (arith, start at .pre .numerator, start at .pre .divisors, both-there at)
 
 returns : tie.Need-returns Inv-loop μ-loop
 returns c =
     let at = turn1 (c .before .before .before) in
     let a = start at .args in
-    let judged = c .before .before in
-    sym (lowest-is (wrong (s at) (a .width) (a .numerator) (a .first)) (a .count) (j at) (omega (arith, both-there at))
-    (is-wrong (start at .pre) (s at) (j at) (omega (arith, both-there at)) (first-word (judged .before)) (judged .judge .ensures) (c .if1 .taken))
-    (at .before .loop .inv .2))
+    sym (lowest-is (is-wrong at) (a .count) (j at) (omega (arith, both-there at)) (first-test (c .before) ∙ c .if1 .taken) (at .before .loop .inv .2))
 
-add-judge : tie.Need-add-judge Inv-loop μ-loop
-add-judge c = omega (arith, both-there (turn2 c))
+add-decoded : tie.Need-add-decoded Inv-loop μ-loop
+add-decoded c = omega (arith, both-there (turn2 c))
 
 low-requires : tie.Need-low-requires Inv-loop μ-loop
 low-requires c κs = search needs
 
-cast-judge-2 : tie.Need-cast-judge-2 Inv-loop μ-loop
-cast-judge-2 c =
+cast-decoded-2 : tie.Need-cast-decoded-2 Inv-loop μ-loop
+cast-decoded-2 c =
     let at = turn2 (c .before) in
     omega (arith, second-word c, word-fits (start at .pre) (s at) (j at + 1))
 
-judge-requires-2 : tie.Need-judge-requires-2 Inv-loop μ-loop
-judge-requires-2 c κs = search needs
+decoded-requires-2 : tie.Need-decoded-requires-2 Inv-loop μ-loop
+decoded-requires-2 c κs = let at = turn2 (c .before) in fits at (j at + 1) (second-word c)
+
+add-rounds-up-2 : tie.Need-add-rounds-up-2 Inv-loop μ-loop
+add-rounds-up-2 c = omega (arith, both-there (turn2 (c .before .before)))
+
+add-rounds-up-3 : tie.Need-add-rounds-up-3 Inv-loop μ-loop
+add-rounds-up-3 c = let at = turn2 (c .before .before) in omega (arith, start at .pre .divisors, both-there at)
+
+rounds-up-requires-2 : tie.Need-rounds-up-requires-2 Inv-loop μ-loop
+rounds-up-requires-2 c κs = let at = turn2 (c .before .before) in omega (arith, start at .pre .numerator, start at .pre .divisors, both-there at)
 
 add-result : tie.Need-add-result Inv-loop μ-loop
-add-result c = omega (arith, both-there (turn2 (c .before .before .before .before)))
+add-result c = omega (arith, both-there (turn3 (c .before)))
 
 returns-2 : tie.Need-returns-2 Inv-loop μ-loop
 returns-2 c =
-    let judged = c .before .before in
-    let right = judged .before .before in
-    let at = turn2 right in
+    let at = turn3 (c .before) in
     let a = start at .args in
-    sym (lowest-is (wrong (s at) (a .width) (a .numerator) (a .first)) (a .count) (j at + 1) (both-there at)
-    (is-wrong (start at .pre) (s at) (j at + 1) (both-there at) (second-word (judged .before)) (judged .judge2 .ensures) (c .if2 .taken))
-    (up-to-first right))
+    sym (lowest-is (is-wrong at) (a .count) (j at + 1) (both-there at) (second-test (c .before) ∙ c .if2 .taken) (up-to-first (c .before .before .before .before)))
 
 add-j : tie.Need-add-j Inv-loop μ-loop
-add-j c = omega (arith, both-there (turn2 (c .before .before .before .before)))
+add-j c = omega (arith, both-there (turn3 (c .before)))
 
 loop-less : tie.Need-loop-less Inv-loop μ-loop
 loop-less c = omega arith
 
 loop-again : tie.Need-loop-again Inv-loop μ-loop
 loop-again c =
-    let judged = c .before .before in
-    let right = judged .before .before in
-    let at = turn2 right in (
+    let at = turn3 (c .before) in (
       omega (arith, at .before .loop .inv .0),
       omega (arith, both-there at),
-      λ i h. below-more _ _ (up-to-first right)
-          (is-right (start at .pre) (s at) (j at + 1) (both-there at) (second-word (judged .before)) (judged .judge2 .ensures) (c .if2 .left))
-          i (omega arith),
+      λ i h. below-more _ _ (up-to-first (c .before .before .before .before)) (second-test (c .before) ∙ c .if2 .left) i (omega arith),
     )
 
 returns-3 : tie.Need-returns-3 Inv-loop μ-loop
@@ -179,13 +197,18 @@ first-wrong-spec =
     mul-field-2
     field-requires
     high-requires
-    cast-judge
-    judge-requires
+    cast-decoded
+    decoded-requires
+    add-rounds-up
+    rounds-up-requires
     returns
-    add-judge
+    add-decoded
     low-requires
-    cast-judge-2
-    judge-requires-2
+    cast-decoded-2
+    decoded-requires-2
+    add-rounds-up-2
+    add-rounds-up-3
+    rounds-up-requires-2
     add-result
     returns-2
     add-j
