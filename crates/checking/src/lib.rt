@@ -1,6 +1,6 @@
 // Checking an image against the construction.
 ghost use mathlib.Core.Path.{_≡_};
-ghost use Prim.Native.Nat.{ℕ, _+_, _*_, _%_, _^_, _≤_, _<_};
+ghost use Prim.Native.Nat.{ℕ, _+_, _%_, _^_, _≤_, _<_};
 ghost use Rattle.quotient.specs.Quotient.{roundedUp, roundsUp};
 ghost use Rattle.nodes.specs.Nodes.{decodeUnder};
 ghost use Rattle.answers.specs.Answer.{done};

@@ -24,7 +24,7 @@ Inv-loop image width count numerator first lead j₀ j =
 abbrev μ-loop : tie.MeasureT-loop
 μ-loop image width count numerator first lead j₀ j = count - j
 
--- what is asked, the bytes and the place of the loop, where the test has passed
+-- a turn of the loop, what the function was told, its bytes and the place where the turn is
 abbrev Turn : Type 0
 Turn = tie.In-loop Inv-loop μ-loop
 
@@ -44,7 +44,7 @@ bytes c i = omega (arith, c .before .before .shared-slice-known .given i)
 both-there : (c : Turn) → j c + 1 < start c .args .count
 both-there c = omega (arith, c .before .loop .inv .0, start c .pre .even, c .loop-test .taken)
 
--- a word has its place in 32 bits, and so has what it stands for
+-- what a word stands for has its place in 32 bits
 fits : (c : Turn) (i : ℕ) {word : ℕ} → word ≡ wordAt (start c .args .width) (s c) i → decodeUnder (start c .args .lead) i word < 2 ^ 32
 fits c i is = rw is (start c .pre .values i (wordAt (start c .args .width) (s c) i) (word-lt (start c .args .width) (s c) i))
 
