@@ -41,8 +41,9 @@ fn first_wrong(image: &[u8], width: u32, count: u32, numerator: u64, first: u32,
     ensures { λ r. ⌜ r ≡ firstWrongWord width (λ (j : ℕ). roundedUp numerator (first + j) % 2 ^ width) count (now (image .entry)) ⌝ }
 {
     let mut j: u32 = 0;
+    let mut bit: u64 = 0;
     while j < count {
-        let both = packing::field(image, (j as u64) * (width as u64), 2 * width);
+        let both = packing::field(image, bit, 2 * width);
         let even = decoded(lead, j, bits::high(both, width) as u32);
         if !rounds_up(numerator, first + j, even) {
             return j;
@@ -52,6 +53,7 @@ fn first_wrong(image: &[u8], width: u32, count: u32, numerator: u64, first: u32,
             return j + 1;
         }
         j += 2;
+        bit += 2 * (width as u64);
     }
     count
 }

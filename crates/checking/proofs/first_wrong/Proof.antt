@@ -1,16 +1,16 @@
--- `checking::first_wrong` meets its contract. The loop's invariant: j is even and no word before word j is wrong. The measure is the number of
--- words left.
+-- `checking::first_wrong` meets its contract. The loop's invariant: j is even, no word before word j is wrong, and `bit` is where that word
+-- starts. The measure is the number of words left.
 -- Assumes nothing.
 use mathlib.Core.Path.{_≡_, sym, ap, _∙_}
 use mathlib.Core.Bool.{Bool, false, not}
 use mathlib.Core.List.{List}
-use Prim.Native.Nat.{ℕ, _+_, _-_, _/_, _%_, _^_, _≤_, _<_}
+use Prim.Native.Nat.{ℕ, _+_, _-_, _*_, _/_, _%_, _^_, _≤_, _<_}
 use native.Mathlib.Nat.{mul-le-mul}
 use native.Mathlib.Omega.{arith}
 use borrow.Author.Needs.{needs}
 use borrow.Author.Count.{below-none, below-more}
 use Rattle.nodes.specs.Nodes.{decodeUnder}
-use Rattle.packing.specs.Packing.{Bytes, wordAt}
+use Rattle.packing.specs.Packing.{Bytes, fieldRead, wordAt}
 use Rattle.packing.proofs.Words.{word-lt}
 use Rattle.image.proofs.Lowest.{lowest-is, lowest-none}
 use Rattle.checking.proofs.Twos.{wrong, word-fits, first-of, second-of, test-tells}
@@ -18,11 +18,11 @@ use Rattle.checking.proofs.first_wrong.Statement.{statement}
 use Rattle.checking.proofs.first_wrong.Tie as tie
 
 abbrev Inv-loop : tie.InvT-loop
-Inv-loop image width count numerator first lead j₀ j =
-    (j % 2 ≡ 0) × (j ≤ count) × ((i : ℕ) → i < j → wrong image width numerator first i ≡ false)
+Inv-loop image width count numerator first lead j₀ bit₀ j bit =
+    (j % 2 ≡ 0) × (j ≤ count) × ((i : ℕ) → i < j → wrong image width numerator first i ≡ false) × (bit ≡ j * width)
 
 abbrev μ-loop : tie.MeasureT-loop
-μ-loop image width count numerator first lead j₀ j = count - j
+μ-loop image width count numerator first lead j₀ bit₀ j bit = count - j
 
 -- a turn of the loop, what the function was told, its bytes and the place where the turn is
 abbrev Turn : Type 0
@@ -44,6 +44,22 @@ bytes c i = omega (arith, c .before .before .shared-slice-known .given i)
 both-there : (c : Turn) → j c + 1 < start c .args .count
 both-there c = omega (arith, c .before .loop .inv .0, start c .pre .even, c .loop-test .taken)
 
+-- what is read, by the place of the turn
+abbrev both : Turn → ℕ
+both c = fieldRead (s c) (j c * start c .args .width) (2 * start c .args .width)
+
+reads : (c : tie.After-field Inv-loop μ-loop) → c .field .result ≡ both (c .before)
+reads c =
+    let at = c .before in
+    c .field .ensures .0 ∙ ap (λ (b : ℕ). fieldRead (s at) b (2 * start at .args .width)) (at .before .loop .inv .3)
+
+-- the bits before it are far below 2^64
+bits-few : (c : Turn) → c .before .loop .bit ≤ 4294967295 * 28
+bits-few c =
+    let few : j c ≤ 4294967295 = omega arith in
+    let narrow : start c .args .width ≤ 28 = omega (arith, start c .pre .two) in
+    omega (arith, c .before .loop .inv .3, mul-le-mul few narrow)
+
 -- what a word stands for has its place in 32 bits
 fits : (c : Turn) (i : ℕ) {word : ℕ} → word ≡ wordAt (start c .args .width) (s c) i → decodeUnder (start c .args .lead) i word < 2 ^ 32
 fits c i is = rw is (start c .pre .values i (wordAt (start c .args .width) (s c) i) (word-lt (start c .args .width) (s c) i))
@@ -60,7 +76,7 @@ first-word : (c : tie.After-high Inv-loop μ-loop) → c .high .result ≡ wordA
 first-word c =
     let at = turn1 c in
     c .high .ensures
-    ∙ ap (λ (x : ℕ). x / 2 ^ start at .args .width) (c .before .field .ensures .0)
+    ∙ ap (λ (x : ℕ). x / 2 ^ start at .args .width) (reads (c .before))
     ∙ first-of (start at .pre) (s at) (bytes at) (j at)
 
 first-test : (c : tie.After-rounds-up Inv-loop μ-loop) → is-wrong (turn1 (c .before .before)) (j (turn1 (c .before .before))) ≡ not (c .rounds-up .result)
@@ -81,7 +97,7 @@ second-word : (c : tie.After-low Inv-loop μ-loop)
 second-word c =
     let at = turn2 (c .before) in
     c .low .ensures
-    ∙ ap (λ (x : ℕ). x % 2 ^ start at .args .width) (c .before .before .before .before .before .field .ensures .0)
+    ∙ ap (λ (x : ℕ). x % 2 ^ start at .args .width) (reads (c .before .before .before .before .before))
     ∙ second-of (start at .pre) (s at) (bytes at) (j at)
 
 abbrev turn3 : tie.After-rounds-up2 Inv-loop μ-loop → Turn
@@ -93,19 +109,10 @@ second-test c =
     test-tells (start at .pre) (s at) (j at + 1) (both-there at) (second-word (c .before .before)) (c .before .decoded2 .ensures) (c .rounds-up2 .ensures)
 
 loop-holds : tie.Need-loop-holds Inv-loop μ-loop
-loop-holds c = (omega arith, omega arith, below-none _)
-
-cast-field : tie.Need-cast-field Inv-loop μ-loop
-cast-field c = search needs
+loop-holds c = (omega arith, omega arith, below-none _, omega arith)
 
 mul-field : tie.Need-mul-field Inv-loop μ-loop
-mul-field c =
-    let few : j c ≤ 4294967295 = omega arith in
-    let narrow : start c .args .width ≤ 28 = omega (arith, start c .pre .two) in
-    omega (arith, mul-le-mul few narrow)
-
-mul-field-2 : tie.Need-mul-field-2 Inv-loop μ-loop
-mul-field-2 c = omega (arith, start c .pre .two)
+mul-field c = omega (arith, start c .pre .two)
 
 field-requires : tie.Need-field-requires Inv-loop μ-loop
 field-requires c κs = search needs
@@ -168,6 +175,12 @@ returns-2 c =
 add-j : tie.Need-add-j Inv-loop μ-loop
 add-j c = omega (arith, both-there (turn3 (c .before)))
 
+mul-bit : tie.Need-mul-bit Inv-loop μ-loop
+mul-bit c = omega (arith, start (turn3 (c .before)) .pre .two)
+
+add-bit : tie.Need-add-bit Inv-loop μ-loop
+add-bit c = omega (arith, bits-few (turn3 (c .before)), start (turn3 (c .before)) .pre .two)
+
 loop-less : tie.Need-loop-less Inv-loop μ-loop
 loop-less c = omega arith
 
@@ -177,6 +190,7 @@ loop-again c =
       omega (arith, at .before .loop .inv .0),
       omega (arith, both-there at),
       λ i h. below-more _ _ (up-to-first (c .before .before .before .before)) (second-test (c .before) ∙ c .if2 .left) i (omega arith),
+      omega (arith, at .before .loop .inv .3),
     )
 
 returns-3 : tie.Need-returns-3 Inv-loop μ-loop
@@ -192,9 +206,7 @@ first-wrong-spec =
     Inv-loop
     μ-loop
     loop-holds
-    cast-field
     mul-field
-    mul-field-2
     field-requires
     high-requires
     cast-decoded
@@ -212,6 +224,8 @@ first-wrong-spec =
     add-result
     returns-2
     add-j
+    mul-bit
+    add-bit
     loop-less
     loop-again
     returns-3)
