@@ -1,8 +1,8 @@
 // Checking an image against the construction.
 ghost use mathlib.Core.Path.{_≡_};
-ghost use Prim.Native.Nat.{ℕ, _+_, _*_, _%_, _^_, _≤_, _<_};
-ghost use lib.ListN.{length};
-ghost use Rattle.quotient.specs.Quotient.{roundedUp};
+ghost use Prim.Native.Nat.{ℕ, _+_, _%_, _^_, _≤_, _<_};
+ghost use Rattle.quotient.specs.Quotient.{roundedUp, roundsUp};
+ghost use Rattle.nodes.specs.Nodes.{decodeUnder};
 ghost use Rattle.answers.specs.Answer.{done};
 ghost use Rattle.image.specs.Image.{firstWrongWord};
 ghost use Rattle.image.specs.Calls.{checkOutcome};
@@ -10,19 +10,50 @@ ghost use Rattle.checking.specs.Words.{AreWords};
 use answers::Done;
 use precision::Precision;
 
+// What a word at j stands for under a leading one, where that has its place in 32 bits; a zero word at 0 means twice the leading one.
+fn decoded(lead: u32, j: u32, word: u32) -> u32
+    requires { ⌜ decodeUnder lead j word < 2 ^ 32 ⌝ }
+    ensures { λ r. ⌜ r ≡ decodeUnder lead j word ⌝ }
+{
+    if j != 0 {
+        return lead + word;
+    }
+    if word != 0 {
+        return lead + word;
+    }
+    2 * lead
+}
+
+// Whether value is numerator / divisor rounded up, by a product and one comparison: where the product does not reach the numerator, the
+// difference wraps to a number that is not below the divisor.
+fn rounds_up(numerator: u64, divisor: u32, value: u32) -> bool
+    requires { ⌜ numerator + divisor ≤ 2 ^ 64 ⌝ }
+    ensures { λ r. ⌜ r ≡ roundsUp numerator divisor value ⌝ }
+{
+    let product = (value as u64) * (divisor as u64);
+    std::num::wrapping_sub_u64(product, numerator) < divisor as u64
+}
+
 // The lowest of `count` words of `width` bits that is not numerator / (first + j) rounded up, modulo 2^width, and `count` where none is.
-// Every word up to there is read.
+// Every word up to there is read, two in one reading: there is an even number of them.
 fn first_wrong(image: &[u8], width: u32, count: u32, numerator: u64, first: u32, lead: u32) -> u32
-    requires { ⌜ AreWords (now image) width count numerator first lead ⌝ }
+    requires { ⌜ AreWords width count numerator first lead ⌝ }
     ensures { λ r. ⌜ r ≡ firstWrongWord width (λ (j : ℕ). roundedUp numerator (first + j) % 2 ^ width) count (now (image .entry)) ⌝ }
 {
     let mut j: u32 = 0;
+    let mut bit: u64 = 0;
     while j < count {
-        let c = image::judged_word(image, width, numerator, first, lead, j);
-        if c.0 == 0 {
+        let both = packing::field(image, bit, 2 * width);
+        let even = decoded(lead, j, bits::high(both, width) as u32);
+        if !rounds_up(numerator, first + j, even) {
             return j;
         }
-        j += 1;
+        let odd = decoded(lead, j + 1, bits::low(both, width) as u32);
+        if !rounds_up(numerator, first + (j + 1), odd) {
+            return j + 1;
+        }
+        j += 2;
+        bit += 2 * (width as u64);
     }
     count
 }

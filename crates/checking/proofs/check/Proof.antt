@@ -2,21 +2,23 @@
 -- Assumes nothing.
 use mathlib.Core.Path.{_≡_, sym, _∙_, ap}
 use mathlib.Core.List.{List, [], _∷_}
-use Prim.Native.Nat.{ℕ, _+_, _*_, _%_, _^_, _≤_, _<_}
+use Prim.Native.Nat.{ℕ, zero, suc, _+_, _*_, _%_, _^_, _≤_, _<_}
+use native.Mathlib.Nat.{not-suc-le-zero, pow-suc}
 use native.Mathlib.Omega.{arith}
 use lib.ListN.{length}
+use lib.Pow.{pow-mono}
 use borrow.Author.Needs.{needs}
 use borrow.Author.Tests.{lt-ltb, le-ltb}
 use Rattle.quotient.specs.Quotient.{roundedUp}
 use Rattle.nodes.specs.Nodes.{storedWord}
-use Rattle.nodes.proofs.Nodes.{judged-zero}
+use Rattle.nodes.proofs.Laws.{decode-le, judges}
+use Rattle.nodes.proofs.Powers.{numerator, shape}
 use Rattle.answers.specs.Answer.{done}
 use Rattle.image.specs.Image.{firstWrongWord, firstWrong}
 use Rattle.image.specs.Refusals.{brokenLimit, imageRefusal}
 use Rattle.image.specs.Calls.{imageFront}
-use Rattle.image.proofs.Laws.{whole-bytes}
 use Rattle.image.proofs.Limits.{ImageKept, limit-refuses, limit-passes, limit-kept}
-use Rattle.image.proofs.OwnBytes.{front-kept, front-wrong}
+use Rattle.image.proofs.OwnBytes.{front-wrong}
 use Rattle.checking.specs.Words.{AreWords}
 use Rattle.checking.proofs.check.Statement.{statement}
 use Rattle.checking.proofs.check.Tie as tie
@@ -28,14 +30,23 @@ limit c = sym (c .before .broken-limit .ensures) ∙ c .if1 .left
 kept : (c : tie.Else1) → ImageKept (c .before .before .before .args .k .0) (c .before .before .before .args .image .now)
 kept c = limit-kept (c .before .before .before .args .k .0) (c .before .before .before .args .image .now) (limit c)
 
--- the words of a precision are such as are checked
-are-words : (k : ℕ) (s : List ℕ) → ImageKept k s → AreWords s (2 * k + 2) (2 ^ k) (2 ^ (3 * k + 3)) (2 ^ k) (2 ^ (2 * k + 2))
-are-words k s ok =
+-- the words of a precision are even in number, and such as are checked
+count-even : (k : ℕ) → 1 ≤ k → 2 ^ k % 2 ≡ 0
+count-even zero h = absurd (not-suc-le-zero h)
+count-even (suc q) h = omega (arith, pow-suc 2 q)
+
+are-words : (k : ℕ) → 1 ≤ k → k ≤ 12 → AreWords (2 * k + 2) (2 ^ k) (2 ^ (3 * k + 3)) (2 ^ k) (2 ^ (2 * k + 2))
+are-words k low high =
+    let top : 3 * k + 3 ≤ 39 = omega arith in
+    let wide : 2 * k + 2 ≤ 26 = omega arith in
     record {
       one = omega arith;
-      wide = omega (arith, ok .high);
-      long = omega (arith, whole-bytes k (ok .low), ok .long);
-      judges = λ j word h l. judged-zero k (omega (arith, ok .high)) j word h l;
+      two = omega arith;
+      even = count-even k low;
+      numerator = omega (arith, pow-mono top);
+      divisors = omega (arith, pow-mono high);
+      values = λ j word l. omega (arith, decode-le (2 ^ (2 * k + 2)) j word l, pow-mono wide);
+      judges = λ j word h l. rw (numerator k 2) (judges (shape k 2 (omega arith)) j word h l);
     }
 
 -- the lowest wrong word, by the numbers that are handed on
@@ -74,16 +85,14 @@ first-wrong-requires : tie.Need-first-wrong-requires
 first-wrong-requires c κs =
     let at = c .before .before .before .before .before in
     let k = at .before .before .before .args .k .0 in
-    let s = at .before .before .before .args .image .now in
     let ok = kept at in
     rw (
-      c .before .before .front .ensures .0,
       c .before .before .before .word-width .ensures,
       c .before .before .before .before .word-count .ensures ∙ ok .words,
       c .before .numerator .ensures ∙ ok .numerator,
       c .lead .ensures ∙ ok .lead,
     )
-    (are-words k (imageFront k s) (front-kept k s ok))
+    (are-words k (ok .low) (ok .high))
 
 -- the place that is found is the lowest wrong word of the image
 found : (c : tie.After-first-wrong) → c .first-wrong .result ≡ firstWrong (c .before .before .before .before .before .before .before .before .before .args .k .0) (c .before .before .before .before .before .before .before .before .before .args .image .now)

@@ -1,81 +1,203 @@
--- `checking::first_wrong` meets its contract. The loop's invariant: no word before word j is wrong. The measure is the number of words left.
+-- `checking::first_wrong` meets its contract. The loop's invariant: j is even, no word before word j is wrong, and `bit` is where that word
+-- starts. The measure is the number of words left.
 -- Assumes nothing.
-use mathlib.Core.Path.{_≡_, sym, _∙_}
-use mathlib.Core.Bool.{Bool, true, false}
+use mathlib.Core.Path.{_≡_, sym, ap, _∙_}
+use mathlib.Core.Bool.{Bool, false, not}
 use mathlib.Core.List.{List}
-use Prim.Native.Nat.{ℕ, _+_, _-_, _*_, _%_, _^_, _≤_, _<_}
+use Prim.Native.Nat.{ℕ, _+_, _-_, _*_, _/_, _%_, _^_, _≤_, _<_}
+use native.Mathlib.Nat.{mul-le-mul}
 use native.Mathlib.Omega.{arith}
-use lib.ListN.{length}
 use borrow.Author.Needs.{needs}
 use borrow.Author.Count.{below-none, below-more}
-use Rattle.quotient.specs.Quotient.{roundedUp}
-use Rattle.packing.proofs.Words.{word-within}
-use Rattle.image.specs.Image.{isWrongWord, judgedWord}
+use Rattle.nodes.specs.Nodes.{decodeUnder}
+use Rattle.packing.specs.Packing.{Bytes, fieldRead, wordAt}
+use Rattle.packing.proofs.Words.{word-lt}
 use Rattle.image.proofs.Lowest.{lowest-is, lowest-none}
-use Rattle.image.proofs.Judging.{word-0, word-not-0}
-use Rattle.checking.specs.Words.{AreWords}
+use Rattle.checking.proofs.Twos.{wrong, word-fits, first-of, second-of, test-tells}
 use Rattle.checking.proofs.first_wrong.Statement.{statement}
 use Rattle.checking.proofs.first_wrong.Tie as tie
 
--- word j is not the quotient's
-abbrev wrong : List ℕ → ℕ → ℕ → ℕ → ℕ → Bool
-wrong s w M first j = isWrongWord w (λ (i : ℕ). roundedUp M (first + i) % 2 ^ w) s j
-
--- what is judged of a word tells whether it is wrong
-module _ {s : List ℕ} {w n M first lead : ℕ} (p : AreWords s w n M first lead) (j : ℕ) (h : j < n) where
-  there : j * w + w ≤ 8 * length s
-  there = omega (arith, word-within w n j h, p .long)
-
-  is-wrong : judgedWord s w M first lead j ≡ 0 → wrong s w M first j ≡ true
-  is-wrong = word-0 s w M first lead j (p .one) (p .wide) there (λ word l. p .judges j word h l)
-
-  is-right : (judgedWord s w M first lead j ≡ 0 → ⊥) → wrong s w M first j ≡ false
-  is-right = word-not-0 s w M first lead j (p .one) (p .wide) there (λ word l. p .judges j word h l)
-
 abbrev Inv-loop : tie.InvT-loop
-Inv-loop image width count numerator first lead j₀ j =
-    (j ≤ count) × ((i : ℕ) → i < j → wrong image width numerator first i ≡ false)
+Inv-loop image width count numerator first lead j₀ bit₀ j bit =
+    (j % 2 ≡ 0) × (j ≤ count) × ((i : ℕ) → i < j → wrong image width numerator first i ≡ false) × (bit ≡ j * width)
 
 abbrev μ-loop : tie.MeasureT-loop
-μ-loop image width count numerator first lead j₀ j = count - j
+μ-loop image width count numerator first lead j₀ bit₀ j bit = count - j
+
+-- a turn of the loop, what the function was told, its bytes and the place where the turn is
+abbrev Turn : Type 0
+Turn = tie.In-loop Inv-loop μ-loop
+
+abbrev start : Turn → tie.Start Inv-loop μ-loop
+start c = c .before .before .before
+
+abbrev s : Turn → List ℕ
+s c = start c .args .image .now
+
+abbrev j : Turn → ℕ
+j c = c .before .loop .j
+
+bytes : (c : Turn) → Bytes (s c)
+bytes c i = omega (arith, c .before .before .shared-slice-known .given i)
+
+-- both words of the turn are there
+both-there : (c : Turn) → j c + 1 < start c .args .count
+both-there c = omega (arith, c .before .loop .inv .0, start c .pre .even, c .loop-test .taken)
+
+-- what is read, by the place of the turn
+abbrev both : Turn → ℕ
+both c = fieldRead (s c) (j c * start c .args .width) (2 * start c .args .width)
+
+reads : (c : tie.After-field Inv-loop μ-loop) → c .field .result ≡ both (c .before)
+reads c =
+    let at = c .before in
+    c .field .ensures .0 ∙ ap (λ (b : ℕ). fieldRead (s at) b (2 * start at .args .width)) (at .before .loop .inv .3)
+
+-- the bits before it are far below 2^64
+bits-few : (c : Turn) → c .before .loop .bit ≤ 4294967295 * 28
+bits-few c =
+    let few : j c ≤ 4294967295 = omega arith in
+    let narrow : start c .args .width ≤ 28 = omega (arith, start c .pre .two) in
+    omega (arith, c .before .loop .inv .3, mul-le-mul few narrow)
+
+-- what a word stands for has its place in 32 bits
+fits : (c : Turn) (i : ℕ) {word : ℕ} → word ≡ wordAt (start c .args .width) (s c) i → decodeUnder (start c .args .lead) i word < 2 ^ 32
+fits c i is = rw is (start c .pre .values i (wordAt (start c .args .width) (s c) i) (word-lt (start c .args .width) (s c) i))
+
+-- word i is wrong
+abbrev is-wrong : Turn → ℕ → Bool
+is-wrong c i = wrong (s c) (start c .args .width) (start c .args .numerator) (start c .args .first) i
+
+-- the first word, and what the test says of it
+abbrev turn1 : tie.After-high Inv-loop μ-loop → Turn
+turn1 c = c .before .before
+
+first-word : (c : tie.After-high Inv-loop μ-loop) → c .high .result ≡ wordAt (start (turn1 c) .args .width) (s (turn1 c)) (j (turn1 c))
+first-word c =
+    let at = turn1 c in
+    c .high .ensures
+    ∙ ap (λ (x : ℕ). x / 2 ^ start at .args .width) (reads (c .before))
+    ∙ first-of (start at .pre) (s at) (bytes at) (j at)
+
+first-test : (c : tie.After-rounds-up Inv-loop μ-loop) → is-wrong (turn1 (c .before .before)) (j (turn1 (c .before .before))) ≡ not (c .rounds-up .result)
+first-test c =
+    let at = turn1 (c .before .before) in
+    test-tells (start at .pre) (s at) (j at) (omega (arith, both-there at)) (first-word (c .before .before)) (c .before .decoded .ensures) (c .rounds-up .ensures)
+
+-- behind the first test no word up to it is wrong
+abbrev turn2 : tie.Else1 Inv-loop μ-loop → Turn
+turn2 c = turn1 (c .before .before .before)
+
+up-to-first : (c : tie.Else1 Inv-loop μ-loop) → (i : ℕ) → i < j (turn2 c) + 1 → is-wrong (turn2 c) i ≡ false
+up-to-first c = below-more _ _ (turn2 c .before .loop .inv .2) (first-test (c .before) ∙ c .if1 .left)
+
+-- the second word, and what the test says of it
+second-word : (c : tie.After-low Inv-loop μ-loop)
+    → c .low .result ≡ wordAt (start (turn2 (c .before)) .args .width) (s (turn2 (c .before))) (j (turn2 (c .before)) + 1)
+second-word c =
+    let at = turn2 (c .before) in
+    c .low .ensures
+    ∙ ap (λ (x : ℕ). x % 2 ^ start at .args .width) (reads (c .before .before .before .before .before))
+    ∙ second-of (start at .pre) (s at) (bytes at) (j at)
+
+abbrev turn3 : tie.After-rounds-up2 Inv-loop μ-loop → Turn
+turn3 c = turn2 (c .before .before .before)
+
+second-test : (c : tie.After-rounds-up2 Inv-loop μ-loop) → is-wrong (turn3 c) (j (turn3 c) + 1) ≡ not (c .rounds-up2 .result)
+second-test c =
+    let at = turn3 c in
+    test-tells (start at .pre) (s at) (j at + 1) (both-there at) (second-word (c .before .before)) (c .before .decoded2 .ensures) (c .rounds-up2 .ensures)
 
 loop-holds : tie.Need-loop-holds Inv-loop μ-loop
-loop-holds c = (omega arith, below-none _)
+loop-holds c = (omega arith, omega arith, below-none _, omega arith)
 
-judged-word-requires : tie.Need-judged-word-requires Inv-loop μ-loop
-judged-word-requires c κs = search needs
+mul-field : tie.Need-mul-field Inv-loop μ-loop
+mul-field c = omega (arith, start c .pre .two)
+
+field-requires : tie.Need-field-requires Inv-loop μ-loop
+field-requires c κs = search needs
+
+high-requires : tie.Need-high-requires Inv-loop μ-loop
+high-requires c κs = search needs
+
+cast-decoded : tie.Need-cast-decoded Inv-loop μ-loop
+cast-decoded c =
+    let at = turn1 c in
+    omega (arith, first-word c, word-fits (start at .pre) (s at) (j at))
+
+decoded-requires : tie.Need-decoded-requires Inv-loop μ-loop
+decoded-requires c κs = fits (turn1 c) (j (turn1 c)) (first-word c)
+
+add-rounds-up : tie.Need-add-rounds-up Inv-loop μ-loop
+add-rounds-up c = let at = turn1 (c .before) in omega (arith, start at .pre .divisors, both-there at)
+
+rounds-up-requires : tie.Need-rounds-up-requires Inv-loop μ-loop
+rounds-up-requires c κs = let at = turn1 (c .before) in omega (arith, start at .pre .numerator, start at .pre .divisors, both-there at)
 
 returns : tie.Need-returns Inv-loop μ-loop
 returns c =
-    let at = c .before .before .before in
-    let start = at .before .before .before in
-    let a = start .args in
-    let j = at .before .loop .j in
-    let l : j < a .count = omega (arith, at .loop-test .taken) in
-    sym (lowest-is (wrong (a .image .now) (a .width) (a .numerator) (a .first)) (a .count) j l
-    (is-wrong (start .pre) j l (sym (c .before .before .judged-word .ensures) ∙ c .if1 .taken))
-    (at .before .loop .inv .1))
+    let at = turn1 (c .before .before .before) in
+    let a = start at .args in
+    sym (lowest-is (is-wrong at) (a .count) (j at) (omega (arith, both-there at)) (first-test (c .before) ∙ c .if1 .taken) (at .before .loop .inv .2))
+
+add-decoded : tie.Need-add-decoded Inv-loop μ-loop
+add-decoded c = omega (arith, both-there (turn2 c))
+
+low-requires : tie.Need-low-requires Inv-loop μ-loop
+low-requires c κs = search needs
+
+cast-decoded-2 : tie.Need-cast-decoded-2 Inv-loop μ-loop
+cast-decoded-2 c =
+    let at = turn2 (c .before) in
+    omega (arith, second-word c, word-fits (start at .pre) (s at) (j at + 1))
+
+decoded-requires-2 : tie.Need-decoded-requires-2 Inv-loop μ-loop
+decoded-requires-2 c κs = let at = turn2 (c .before) in fits at (j at + 1) (second-word c)
+
+add-rounds-up-2 : tie.Need-add-rounds-up-2 Inv-loop μ-loop
+add-rounds-up-2 c = omega (arith, both-there (turn2 (c .before .before)))
+
+add-rounds-up-3 : tie.Need-add-rounds-up-3 Inv-loop μ-loop
+add-rounds-up-3 c = let at = turn2 (c .before .before) in omega (arith, start at .pre .divisors, both-there at)
+
+rounds-up-requires-2 : tie.Need-rounds-up-requires-2 Inv-loop μ-loop
+rounds-up-requires-2 c κs = let at = turn2 (c .before .before) in omega (arith, start at .pre .numerator, start at .pre .divisors, both-there at)
+
+add-result : tie.Need-add-result Inv-loop μ-loop
+add-result c = omega (arith, both-there (turn3 (c .before)))
+
+returns-2 : tie.Need-returns-2 Inv-loop μ-loop
+returns-2 c =
+    let at = turn3 (c .before) in
+    let a = start at .args in
+    sym (lowest-is (is-wrong at) (a .count) (j at + 1) (both-there at) (second-test (c .before) ∙ c .if2 .taken) (up-to-first (c .before .before .before .before)))
 
 add-j : tie.Need-add-j Inv-loop μ-loop
-add-j c = omega arith
+add-j c = omega (arith, both-there (turn3 (c .before)))
+
+mul-bit : tie.Need-mul-bit Inv-loop μ-loop
+mul-bit c = omega (arith, start (turn3 (c .before)) .pre .two)
+
+add-bit : tie.Need-add-bit Inv-loop μ-loop
+add-bit c = omega (arith, bits-few (turn3 (c .before)), start (turn3 (c .before)) .pre .two)
 
 loop-less : tie.Need-loop-less Inv-loop μ-loop
 loop-less c = omega arith
 
 loop-again : tie.Need-loop-again Inv-loop μ-loop
 loop-again c =
-    let at = c .before .before .before in (
-      omega arith,
-      below-more _ _ (at .before .loop .inv .1)
-          (is-right (at .before .before .before .pre) (at .before .loop .j) (omega (arith, at .loop-test .taken))
-          (λ e. c .if1 .left (c .before .before .judged-word .ensures ∙ e))),
+    let at = turn3 (c .before) in (
+      omega (arith, at .before .loop .inv .0),
+      omega (arith, both-there at),
+      λ i h. below-more _ _ (up-to-first (c .before .before .before .before)) (second-test (c .before) ∙ c .if2 .left) i (omega arith),
+      omega (arith, at .before .loop .inv .3),
     )
 
-returns-2 : tie.Need-returns-2 Inv-loop μ-loop
-returns-2 c =
+returns-3 : tie.Need-returns-3 Inv-loop μ-loop
+returns-3 c =
     let a = c .before .before .before .args in
     let all : a .count ≤ c .before .loop .j = omega (arith, c .loop-test .left) in
-    sym (lowest-none (wrong (a .image .now) (a .width) (a .numerator) (a .first)) (a .count) (λ i h. c .before .loop .inv .1 i (omega arith)))
+    sym (lowest-none (wrong (a .image .now) (a .width) (a .numerator) (a .first)) (a .count) (λ i h. c .before .loop .inv .2 i (omega arith)))
 
 pub first-wrong-spec : {M : Type 1} → statement M
 first-wrong-spec =
@@ -84,9 +206,26 @@ first-wrong-spec =
     Inv-loop
     μ-loop
     loop-holds
-    judged-word-requires
+    mul-field
+    field-requires
+    high-requires
+    cast-decoded
+    decoded-requires
+    add-rounds-up
+    rounds-up-requires
     returns
+    add-decoded
+    low-requires
+    cast-decoded-2
+    decoded-requires-2
+    add-rounds-up-2
+    add-rounds-up-3
+    rounds-up-requires-2
+    add-result
+    returns-2
     add-j
+    mul-bit
+    add-bit
     loop-less
     loop-again
-    returns-2)
+    returns-3)
