@@ -2,11 +2,10 @@
 import functools
 import os
 import random
-import re
-from fractions import Fraction
 
 import reference
 from c_build import C_WARNINGS, ROOT, files, make, pkg_config, prefix, room, run, well
+from examples import lines_of, proof
 
 EXAMPLES = ["order_image", "proofread", "reciprocals"]
 SANITIZED = 77  # the status of a program that a sanitizer has stopped
@@ -42,13 +41,14 @@ def made():
     if files(there) != set(EXAMPLES):
         return f"there are {files(there)}"
     path = room() / "ordered"
-    well(there / "order_image", "2", path)
+    if well(there / "order_image", "2", path) != "2 3\n":
+        return "order_image does not print the precision and the bytes"
     if path.read_bytes() != bytes.fromhex("02758A"):
         return f"the image of precision 2 is {path.read_bytes().hex()}"
-    if well(there / "proofread", "2", path) != "every word is right\n":
+    if well(there / "proofread", "2", path) != "right\n":
         return "proofread does not accept it"
     found = well(there / "reciprocals", "2", "7", "135")
-    return None if found == "135/2^7: 30 ulps of 1/2^5, 0.93750\n" else found
+    return None if found == "135 30\n" else found
 
 
 def ordered():
@@ -56,24 +56,9 @@ def ordered():
         path = room() / "ordered"
         path.unlink(missing_ok=True)
         found = ask("order_image", str(k), path)
-        if found != (0, "", "") or path.read_bytes() != reference.image(k):
+        if found != (0, f"{k} {reference.LENGTHS[k - 1]}\n", "") or path.read_bytes() != reference.image(k):
             return f"precision {k}: {found}"
     return None
-
-
-def proofread_says(k, data):
-    """The status and what is printed for a mask file, by the reference."""
-    data = data[:max(reference.LENGTHS) + 1]
-    number, j, _ = reference.call_check(k, data)
-    if number == 0:
-        return 0, "every word is right" + "; the file is longer than the image" * (len(data) > len(reference.image(k))) + "\n", ""
-    assert number == 6, number
-    first, last = j * reference.width(k) // 8, (j * reference.width(k) + reference.width(k) - 1) // 8
-    lines = [f"the word of node {j} is wrong: bytes {first} to {last}"]
-    for what, image in ("found     ", data), ("should be ", reference.image(k)):
-        word = int(reference.bits_of(image)[j * reference.width(k):(j + 1) * reference.width(k)], 2)
-        lines.append(f"{what} {reference.call_word_bytes(k, image, j).hex(' ').upper()}, word {word}")
-    return 1, "\n".join(lines) + "\n", ""
 
 
 def proofread():
@@ -88,34 +73,28 @@ def proofread():
             data[bit // 8] ^= 0x80 >> bit % 8
             masks.append((k, bytes(data)))
     for k, data in masks:
-        found, expected = ask("proofread", str(k), mask_file(data)), proofread_says(k, data)
+        found, expected = ask("proofread", str(k), mask_file(data)), (*proof(k, data), "")
         if found != expected:
             return f"precision {k}, {data[:20].hex()}: {found}, expected {expected}"
     third = ask("proofread", "2", mask_file(bytes.fromhex("02758B")))[1]
-    return None if third.startswith("the word of node 3 is wrong: bytes 2 to 2\nfound      8B, word 11\n") else third
+    return None if third == "wrong word at node 3, bytes 2 to 2: 8B\nshould be 8A: node 3 is 74 table units\n" else third
 
 
 def reciprocals():
-    """Operands of document 01 and others, as arguments and as lines: the ulps are the reference's, and the decimal is their value."""
+    """Operands of document 01 and others, as arguments and as lines, some of them out of their limits."""
     rng = random.Random(7)
-    asked = [(2, 7, [128, 129, 135, 160, 255]), (2, 63, [2 ** 63 + 1, 2 ** 64 - 1]), (1, 5, [32, 63])]
+    asked = [(2, 7, [128, 129, 135, 160, 255]), (2, 63, [2 ** 63 + 1, 2 ** 64 - 1]), (1, 5, [32, 63]), (2, 7, [127, 128, 256, 255]),
+             *((2, n, [135, 0]) for n in (0, 6, 64, 2 ** 32 - 1)), *((2, 7, [x, 128]) for x in (0, 2 ** 32 + 2, 2 ** 64 - 1))]
     for k in range(1, 13):
         for n in (2 * k + 3, rng.randint(2 * k + 3, 63), 63):
             asked.append((k, n, [2 ** n, 2 ** (n + 1) - 1, *(2 ** n + rng.randrange(2 ** n) for _ in range(20))]))
     for k, n, operands in asked:
-        by_arguments = ask("reciprocals", str(k), str(n), *map(str, operands))
+        expected = (*lines_of(k, n, operands), "")
         lines = "".join(f"{x}\n" for x in operands).encode()
-        by_lines = ask("reciprocals", str(k), str(n), stdin=None, input=lines)
-        if by_lines != by_arguments or ask("reciprocals", str(k), str(n), stdin=None, input=lines[:-1]) != by_lines:
-            return f"precision {k}, {n} fraction bits: lines are answered in another way"
-        status, printed, said = by_arguments
-        rows = re.findall(r"^(\d+)/2\^(\d+): (\d+) ulps of 1/2\^(\d+), ([01]\.\d+)$", printed, re.M)
-        if (status, said, len(rows)) != (0, "", len(operands)) or printed.count("\n") != len(operands):
-            return f"precision {k}, {n} fraction bits: {by_arguments}"
-        for x, row in zip(operands, rows):
-            ulps = reference.reciprocal(k, n, x)
-            if tuple(map(int, row[:4])) != (x, n, ulps, 2 * k + 1) or Fraction(row[4]) != Fraction(ulps, 2 ** (2 * k + 1)):
-                return f"precision {k}, {x} with {n} fraction bits: {row}, expected {ulps} ulps"
+        for found in (ask("reciprocals", str(k), str(n), *map(str, operands)), ask("reciprocals", str(k), str(n), stdin=None, input=lines),
+                      ask("reciprocals", str(k), str(n), stdin=None, input=lines[:-1])):  # no line feed after the last
+            if found != expected:
+                return f"precision {k}, {n} fraction bits: {found}, expected {expected}"
     return None if ask("reciprocals", "2", "7", stdin=None, input=b"") == (0, "", "") else "no operand is not answered by no line"
 
 
@@ -130,13 +109,13 @@ def mistakes():
     new.unlink(missing_ok=True)
     for name, rest in ("order_image", [new]), ("proofread", [right]), ("reciprocals", ["7", "135"]):
         for text in NO_NUMBER:
-            yield name, [text, *rest], b"", 2, f"usage: {name} "
+            yield name, [text, *rest], b"", 2, f"{name}: K is not a number from 1 to 12"
         for text in NO_PRECISION:
-            yield name, [text, *rest], b"", 1, f"{name}: refused 1: "
-        yield name, [], b"", 2, "usage: "
-        yield name, ["2"], b"", 2, "usage: "
+            yield name, [text, *rest], b"", 1, f"{name}: refusal 1: "
+        yield name, [], b"", 2, f"{name}: usage: {name} K "
+        yield name, ["2"], b"", 2, f"{name}: usage: {name} K "
     for name in ("order_image", "proofread"):
-        yield name, ["2", right, right], b"", 2, "usage: "
+        yield name, ["2", right, right], b"", 2, f"{name}: usage: {name} K FILE"
         yield name, ["2", room() / "none" / "mask"], b"", 2, f"{name}: {room()}/none/mask: No such file or directory"
         yield name, ["2", room()], b"", 2, f"{name}: {room()}: Is a directory"
     for k in "2", "12":  # the one is written at the end only, the other before it
@@ -144,18 +123,13 @@ def mistakes():
     for k, length in (2, 0), (2, 2), (12, 13311):
         short = room() / f"short{length}"
         short.write_bytes(reference.image(k)[:length])
-        yield "proofread", [str(k), short], b"", 1, "proofread: refused 2: "
+        yield "proofread", [str(k), short], b"", 1, "proofread: refusal 2: "
     for text in NO_NUMBER:
-        yield "reciprocals", ["2", text, "135"], b"", 2, "usage: "
+        yield "reciprocals", ["2", text, "135"], b"", 2, "reciprocals: N is not a number from 2K + 3 to 63"
         if "4294967298" != text:
-            yield "reciprocals", ["2", "7", text], b"", 2, "reciprocals: operand 1 is not a decimal number below 2^64"
+            yield "reciprocals", ["2", "7", text], b"", 2, "reciprocals: operand 1 is not a number below 2^64"
     for text in b"\n", b" 135\n", b"135 \n", b"135\r\n", b"135\0\n", b"135\0", b"\0", b"-135", b"135,136\n", b"9" * 10 ** 6, b"\xff\n":
-        yield "reciprocals", ["2", "7"], text, 2, "reciprocals: operand 1 is not a decimal number below 2^64"
-    for n in "0", "6", "64", "4294967295":
-        yield "reciprocals", ["2", n, "135"], b"", 1, "reciprocals: 135: refused 4: "
-    for x in "0", "127", "256", "4294967298", "18446744073709551615":
-        yield "reciprocals", ["2", "7", x], b"", 1, f"reciprocals: {x}: refused 5: "
-        yield "reciprocals", ["2", "7"], f"{x}\n128\n".encode(), 1, f"reciprocals: {x}: refused 5: "
+        yield "reciprocals", ["2", "7"], text, 2, "reciprocals: operand 1 is not a number below 2^64"
 
 
 def mistakes_told():
@@ -167,17 +141,16 @@ def mistakes_told():
 
 
 def mistake_after_work():
-    """Operands before a mistake are answered, and none after it."""
-    for more, status in ("256", 1), ("x", 2):
-        found = ask("reciprocals", "2", "7", "135", more, "128")
-        if found[:2] != (status, "135/2^7: 30 ulps of 1/2^5, 0.93750\n") or not found[2]:
-            return f"{found}"
-    return None
+    """Operands before one that is no number are answered, and none after it."""
+    found = ask("reciprocals", "2", "7", "256", "135", "x", "128")
+    expected = 2, "256 refused 5 0\n135 30\n", "reciprocals: operand 3 is not a number below 2^64\n"
+    return None if found == expected else f"{found}"
 
 
 def no_room_for_output():
     """Standard output that cannot be written, and standard input that cannot be read, are told."""
-    for name, words in ("proofread", ["2", mask_file(bytes.fromhex("02758B"))]), ("reciprocals", ["2", "7", "135"]):
+    for name, words in (("order_image", ["2", room() / "ordered"]), ("proofread", ["2", mask_file(bytes.fromhex("02758B"))]),
+                        ("reciprocals", ["2", "7", "135"])):
         done = run("sh", "-c", 'exec "$0" "$@" >/dev/full', example(name), *words, env=WITH)
         if done.returncode != 2 or done.stderr != f"{name}: No space left on device\n".encode():
             return f"{name}: {done}"
@@ -191,5 +164,5 @@ def tests():
     yield "c: proofread names the first wrong word", proofread
     yield "c: reciprocals gives those of the reference", reciprocals
     yield "c: a caller's mistake is told, with a status", mistakes_told
-    yield "c: reciprocals stops at a mistake", mistake_after_work
+    yield "c: reciprocals stops at an operand that is no number", mistake_after_work
     yield "c: output that cannot be written is told", no_room_for_output

@@ -17,8 +17,9 @@ import comparing  # noqa: E402
 import programs  # noqa: E402
 import repository  # noqa: E402
 import rust_side  # noqa: E402
+import twins  # noqa: E402
 
-PARTS = [programs, repository, c_side, rust_side, comparing, accuracy_page]
+PARTS = [programs, repository, c_side, rust_side, twins, comparing, accuracy_page]
 
 
 def main():

@@ -9,6 +9,7 @@ import tempfile
 
 import reference
 from archives import archive
+from examples import lines_of, proof
 
 ROOT = pathlib.Path(__file__).resolve().parent.parent
 RUST = ROOT / "rust"
@@ -238,18 +239,6 @@ def ordered():
         return None if (pathlib.Path(folder) / "image 2").read_bytes() == bytes.fromhex("02758A") else "the image of precision 2"
 
 
-def proof(k, data):
-    """What `proofread` must answer: its exit status and its lines."""
-    number, j, _ = reference.call_check(k, data)
-    if number == 0:
-        return 0, "right\n"
-    assert number == 6
-    first, last = j * reference.width(k) // 8, (j * reference.width(k) + reference.width(k) - 1) // 8
-    found, right = (reference.call_word_bytes(k, each, j).hex(" ").upper() for each in (data, reference.image(k)))
-    return 1, (f"wrong word at node {j}, bytes {first} to {last}: {found}\n"
-               f"should be {right}: node {j} is {reference.node(k, j)} table units\n")
-
-
 def proofread():
     """Files of each precision, right, longer, and with some bits damaged; the three that document 01 names among them."""
     rng = random.Random(1)
@@ -272,12 +261,6 @@ def proofread():
     return None if len({proof(k, data)[0] for k, data in files}) == 2 else "the files are all right, or all wrong"
 
 
-def line_of(k, n, x):
-    """What `reciprocals` must print for an operand."""
-    number, place, value = reference.call_reciprocal(k, reference.image(k), n, x)
-    return f"{x} refused {number} {place}\n" if number else f"{x} {value}\n"
-
-
 def reciprocals():
     """Operands as arguments and as lines of standard input, at each precision, some of them out of their limits."""
     rng = random.Random(2)
@@ -289,8 +272,7 @@ def reciprocals():
         lists.append((k, rng.randrange(70), [rng.getrandbits(rng.randint(1, 64)) for _ in range(20)]))
     seen = set()
     for k, n, operands in lists:
-        output = "".join(line_of(k, n, x) for x in operands)
-        status = 1 if "refused" in output else 0
+        status, output = lines_of(k, n, operands)
         seen |= set(re.findall(r"refused (\d)", output)) | {status}
         words = ["reciprocals", str(k), str(n)]
         lines = "".join(f"{x}\n" for x in operands).encode()
@@ -311,9 +293,9 @@ MISTAKES = [
     *((name, words, b"", 2, USAGE) for name in ("order_image", "proofread") for words in ([], ["2"], ["2", "FOLDER/image", "3"])),
     *(("reciprocals", words, b"", 2, USAGE) for words in ([], ["2"])),
     *((name, [k, "FOLDER/new"], b"", 2, "K is not a number") for name in ("order_image", "proofread")
-      for k in ("", "two", "-1", "2.0", " 2", "0x2", "4294967296", b"\xff")),
-    *(("reciprocals", [k, "7", "128"], b"", 2, "K is not a number") for k in ("", "two", "-1", "4294967296", b"\xff")),
-    *(("reciprocals", ["2", n, "128"], b"", 2, "N is not a number") for n in ("", "seven", "-1", "4294967296", b"\xff")),
+      for k in ("", "two", "-1", "+2", "2.0", " 2", "0x2", "4294967296", b"\xff")),
+    *(("reciprocals", [k, "7", "128"], b"", 2, "K is not a number") for k in ("", "two", "-1", "+2", "4294967296", b"\xff")),
+    *(("reciprocals", ["2", n, "128"], b"", 2, "N is not a number") for n in ("", "seven", "-1", "+7", "4294967296", b"\xff")),
     *(("order_image", [k, "FOLDER/new"], b"", 1, RANGE) for k in ("0", "13", "4294967295")),
     *(("proofread", [k, "FOLDER/image"], b"", 1, RANGE) for k in ("0", "13", "4294967295")),
     *(("reciprocals", [k, "7", "128"], b"", 1, RANGE) for k in ("0", "13", "4294967295")),
@@ -328,9 +310,10 @@ MISTAKES = [
     ("proofread", ["2", "FOLDER/short"], b"", 1, SHORT),
     ("proofread", ["2", "FOLDER/empty"], b"", 1, SHORT),
     ("proofread", ["12", "FOLDER/image"], b"", 1, SHORT),
-    *(("reciprocals", ["2", "7", x], b"", 2, "is not a number below 2^64") for x in ("", "x", "-1", "1.5", "1 2", "18446744073709551616", b"\xff")),
-    *(("reciprocals", ["2", "7"], line, 2, "is not a number below 2^64") for line in (b"\n", b"x\n", b"128 \n", b"128,129\n", b"128\0\n")),
-    ("reciprocals", ["2", "7"], b"\xff\n", 2, "UTF-8"),
+    *(("reciprocals", ["2", "7", x], b"", 2, "operand 1 is not a number below 2^64")
+      for x in ("", "x", "-1", "+128", "1.5", "1 2", "18446744073709551616", b"\xff")),
+    *(("reciprocals", ["2", "7"], line, 2, "operand 1 is not a number below 2^64")
+      for line in (b"\n", b"x\n", b"128 \n", b"128\r\n", b"128,129\n", b"128\0\n", b"\xff\n")),
 ]
 
 

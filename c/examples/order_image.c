@@ -1,4 +1,8 @@
-/* Orders the image of a precision and writes it to a file: order_image PRECISION FILE */
+/* Orders an image: builds the one of precision K, writes it to FILE, and prints K and the bytes written. The exit status is 1 where
+ * the library turns the call back, and 2 where the arguments, the file or the output do not allow it.
+ *
+ *     order_image K FILE
+ */
 #include <errno.h>
 #include <inttypes.h>
 #include <stdio.h>
@@ -9,16 +13,14 @@ int main(int argc, char **argv)
 {
     uint8_t image[YILDEGGA_LONGEST_IMAGE];
     uint32_t k;
-    if (argc != 3 || !read_number_32(argv[1], strlen(argv[1]), &k)) {
-        fprintf(stderr, "usage: order_image PRECISION FILE\n");
-        return NOT_CALLED;
-    }
+    if (argc != 3)
+        return not_called("order_image", "usage: order_image K FILE");
+    if (!read_number_32(argv[1], strlen(argv[1]), &k))
+        return not_called("order_image", "K is not a number from 1 to 12");
 
     yildegga_done built = yildegga_build(k, image, sizeof image);
-    if (built.number != YILDEGGA_SERVED) {
-        fprintf(stderr, "order_image: refused %" PRIu32 ": %s\n", built.number, refusal(built.number));
-        return TURNED_BACK;
-    }
+    if (built.number != YILDEGGA_SERVED)
+        return turned_back("order_image", built.number);
 
     size_t length = yildegga_image_length(k);
     FILE *file = fopen(argv[2], "wb");
@@ -29,5 +31,8 @@ int main(int argc, char **argv)
         fprintf(stderr, "order_image: %s: %s\n", argv[2], strerror(errno));
         return NOT_CALLED;
     }
+    printf("%" PRIu32 " %zu\n", k, length);
+    if (fflush(stdout) != 0)
+        return not_called("order_image", strerror(errno));
     return 0;
 }

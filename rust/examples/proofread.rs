@@ -1,6 +1,6 @@
 //! Reads a mask file back as an image of precision K, and prints `right`, or its first wrong word with the bytes that hold it and
-//! what they should be. The exit status is 1 where a word is wrong or the library turns the call back, and 2 where the arguments or
-//! the file do not allow it.
+//! what they should be. The exit status is 1 where a word is wrong or the library turns the call back, and 2 where the arguments,
+//! the file or the output do not allow it.
 //!
 //!     proofread K FILE
 #![forbid(unsafe_code)]
@@ -12,7 +12,9 @@ use std::io::{self, Read, Write};
 use std::path::Path;
 use std::process::ExitCode;
 
-use yildegga::{Refusal, Refused, LONGEST_IMAGE};
+use yildegga::{Refusal, LONGEST_IMAGE};
+
+mod caller;
 
 /// Bytes in hex, with a space between.
 fn hex(bytes: &[u8]) -> String {
@@ -26,46 +28,40 @@ fn image_in(file: &Path) -> io::Result<Vec<u8>> {
     Ok(image)
 }
 
-fn proofread() -> Result<ExitCode, Box<dyn Error>> {
+fn proofread() -> Result<u8, Box<dyn Error>> {
     let words: Vec<_> = env::args_os().skip(1).collect();
     let [k, file] = words.as_slice() else {
         return Err("usage: proofread K FILE".into());
     };
-    let k = k.to_str().and_then(|k| k.parse().ok()).ok_or("K is not a number from 1 to 12")?;
+    let k = k.to_str().and_then(caller::number).ok_or("K is not a number from 1 to 12")?;
     let file = Path::new(file);
     let image = image_in(file).map_err(|error| format!("{}: {error}", file.display()))?;
 
     let refused = match yildegga::check(k, &image) {
         Ok(()) => {
             writeln!(io::stdout(), "right")?;
-            return Ok(ExitCode::SUCCESS);
+            return Ok(0);
         }
         Err(refused) if refused.refusal() == Refusal::WrongWord => refused,
         Err(refused) => return Err(refused.into()),
     };
     let j = u32::try_from(refused.place())?;
     let at = yildegga::word_range(k, &image, j);
-    let found = hex(yildegga::word_bytes(k, &image, j));
     let mut right = image.clone();
     yildegga::build(k, &mut right)?;
-    let expected = hex(yildegga::word_bytes(k, &right, j));
     let node = yildegga::node(k, &right, j)?;
     writeln!(
         io::stdout(),
-        "wrong word at node {j}, bytes {} to {}: {found}\nshould be {expected}: node {j} is {} table units",
+        "wrong word at node {j}, bytes {} to {}: {}\nshould be {}: node {j} is {} table units",
         at.start,
         at.end - 1,
+        hex(yildegga::word_bytes(k, &image, j)),
+        hex(yildegga::word_bytes(k, &right, j)),
         node.0
     )?;
-    Ok(ExitCode::from(1))
+    Ok(caller::TURNED_BACK)
 }
 
 fn main() -> ExitCode {
-    match proofread() {
-        Ok(status) => status,
-        Err(error) => {
-            let _ = writeln!(io::stderr(), "proofread: {error}");
-            ExitCode::from(if error.is::<Refused>() { 1 } else { 2 })
-        }
-    }
+    caller::end("proofread", proofread())
 }
