@@ -103,9 +103,9 @@ def answer(call, k, buffer, numbers):
         return [call, *found, after.hex()]
     if call == "check":
         return [call, *reference.call_check(k, buffer)]
-    if call.endswith("node"):
+    if call == "node":
         return [call, numbers[0], *reference.call_node(k, buffer, numbers[0])]
-    if call.endswith("reciprocal"):
+    if call == "reciprocal":
         return [call, *numbers[:2], *reference.call_reciprocal(k, buffer, *numbers[:2])]
     assert call == "word_bytes", call
     part = reference.call_word_bytes(k, buffer, numbers[0])
@@ -125,7 +125,7 @@ def calls_compared():
             buffer = lent(k, *how) if how else b""
             asked[call].add(k)
             continue
-        numbers = [int(word) for word in words[:5 if call.endswith("reciprocal") else 3]]
+        numbers = [int(word) for word in words[:5 if call == "reciprocal" else 3]]
         expected = " ".join(map(str, answer(call, k, buffer, numbers)))
         if line != expected:
             return f"precision {k}, {len(buffer)} bytes: printed {line[:100]!r}, expected {expected[:100]!r}"

@@ -9,7 +9,7 @@
  * applies, in the order of their numbers, and with every lent byte left as it was. These promises are proved. What the proofs
  * cannot check is the caller's part:
  *   - `image` points to `length` bytes that belong to the caller, for writing in yildegga_build and for reading elsewhere. They
- *     may be more than the image has: those past it are neither read nor written.
+ *     may be more than the image has: those past it are neither read (which is tested, and no proof speaks of it) nor written.
  *   - Nothing else writes these bytes during a call, and nothing else reads them while yildegga_build writes them. The library
  *     keeps no state, so calls on other bytes, and calls that only read, may run at once in several threads.
  *   - The bytes do not overlap the object that takes the answer.
@@ -48,7 +48,8 @@ extern "C" {
 #define YILDEGGA_TABLE_UNITS_IN_ULP 4u
 
 /* The limits that depend on k, as constant expressions where k is constant. IMAGE_LENGTH(k), 2^k * (2k + 2) / 8 bytes, is 1, 3, 8,
-   20, 48, 112, 256, 576, 1280, 2816, 6144 and 13312 at k = 1 to 12, and 0 elsewhere; the others are for these k alone. */
+   20, 48, 112, 256, 576, 1280, 2816, 6144 and 13312 at k = 1 to 12, and 0 elsewhere; the others are for these k alone. IMAGE_LENGTH uses its
+   argument more than once. */
 #define YILDEGGA_IMAGE_LENGTH(k) ((k) < 1 || (k) > 12 ? 0u : (((k) + 1u) << ((k) & 15u)) / 4u) /* & 15u: no shift too far */
 #define YILDEGGA_LAST_NODE(k) (1u << (k))
 #define YILDEGGA_WORD_BITS(k) (2u * (k) + 2u)

@@ -56,7 +56,7 @@ pub fn check(k: u32, image: &[u8]) -> Result<(), Refused> {
 
 /// The value of node `j`, from 0 to 2^k: 2^(3k+3) / (2^k + j), rounded up, in table units.
 ///
-/// Turned back by refusals 1, 2, 3 and 6. The word of node `j` is read and no other; node 2^k has none.
+/// Turned back by refusals 1, 2, 3 and 6. The answer depends on the word of node `j` and on no other; node 2^k has none.
 ///
 /// ```
 /// use yildegga::TableUnits;

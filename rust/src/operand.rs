@@ -5,7 +5,7 @@ use crate::units::Ulps;
 /// The reciprocal of the operand `x`, which has `n` fraction bits and stands for x / 2^n, in ulps. It is less than one ulp from the
 /// exact one, 2^n / x.
 ///
-/// Turned back by refusals 1, 2, 4, 5 and 6. The words of the two nodes about the operand are read and no others.
+/// Turned back by refusals 1, 2, 4, 5 and 6. The words of the two nodes about the operand are judged, and no others.
 ///
 /// ```
 /// use yildegga::Ulps;

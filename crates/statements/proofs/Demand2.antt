@@ -19,7 +19,7 @@ use Rattle.quotient.proofs.Laws.{reaches, least}
 use Rattle.packing.specs.Packing.{Bytes, bitAt, bitOfWord}
 use Rattle.answers.specs.Refusal.{served}
 use Rattle.image.specs.Image.{image, wordOf}
-use Rattle.image.specs.Calls.{buildLeaves, checkOutcome, nodeOutcome, shownPart}
+use Rattle.image.specs.Calls.{buildLeaves, checkOutcome, nodeOutcome, shownPart, shownFrom}
 use Rattle.image.proofs.Laws.{whole-bytes, image-length, right-front, front-right}
 use Rattle.operand.specs.Operand.{cutOperand}
 use Rattle.interpolation.specs.Algorithm.{index, nodeNumber, fraction, cutProductSum}
@@ -208,6 +208,9 @@ module _ (k : ℕ) (s s' : List ℕ) (p : IsPrecision k) (l : IsLongEnough k s) 
 
   pub part-by-image : (j : ℕ) → shownPart k s j ≡ shownPart k s' j
   part-by-image = Depends.front-part k s s' p l m e
+
+  pub part-place-by-image : (j : ℕ) → shownFrom k s j ≡ shownFrom k s' j
+  part-place-by-image = Depends.front-place k s s' p l m e
 
 -- A zero word means 2^(2k+3) at node 0. At any other node it is wrong.
 module _ (k : ℕ) (s : List ℕ) where

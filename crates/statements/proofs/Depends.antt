@@ -19,8 +19,9 @@ use Rattle.packing.proofs.Words.{word-local, word-take, word-within, span-withi
 use Rattle.answers.specs.Refusal.{Refusal, Outcome, outcome, turnedBack}
 use Rattle.image.specs.Image.{wordOf, isWrong, nodeOf}
 use Rattle.image.specs.Refusals.{precisionRefusal, bufferRefusal, nodeRefusal, imageRefusal, wordRefusal}
-use Rattle.image.specs.Calls.{checkOutcome, nodeOutcome, shownPart}
+use Rattle.image.specs.Calls.{checkOutcome, nodeOutcome, shownPart, shownFrom}
 use Rattle.image.proofs.Laws.{whole-bytes, byte-count}
+use Rattle.image.proofs.Limits.{limit-none, limit-image}
 use Rattle.image.proofs.Lowest.{lowest-agrees}
 use Rattle.image.proofs.Judging.{node-past}
 use Rattle.operand.specs.Operand.{cutOperand}
@@ -135,6 +136,10 @@ module _ (k : ℕ) (s t : List ℕ) (p : IsPrecision k) (l : IsLongEnough k s) (
       ∙ front-byte (firstByte (wordWidth k) j + i)
       (omega (arith, q, long, span-within (wordWidth k) (wordCount k) j (omega arith) h, byte-count k (p .0)))
       ∙ sym (shown-bytes k t j p m h i (omega (arith, q, same))))
+
+  -- and they stand at the same place
+  pub front-place : (j : ℕ) → shownFrom k s j ≡ shownFrom k t j
+  front-place j = rw (limit-image k s (limit-none k s (p .0) (p .1) l), limit-image k t (limit-none k t (p .0) (p .1) m))
 
   pub front-part : (j : ℕ) → shownPart k s j ≡ shownPart k t j
   front-part j =

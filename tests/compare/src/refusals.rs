@@ -51,7 +51,7 @@ fn sorted<N: Ord>(mut numbers: Vec<N>) -> Vec<N> {
 const ROOM: usize = 32768;
 
 /// Lengths about each image length, and huge ones. A call looks at nothing past the image, so that a buffer which has one may be said to
-/// have any length.
+/// have any length: this goes beyond what a caller may do.
 fn asked_lengths(k: u32) -> Vec<usize> {
     let mut lengths = vec![0, 1, 2, 28671, 28672, ROOM, (1 << 31) - 1, 1 << 31];
     lengths.extend([32, 61, 63].iter().flat_map(|at| [(1 << at) - 1, 1 << at, (1 << at) + 1]));
