@@ -11,6 +11,10 @@ INCLUDEDIR = $(PREFIX)/include
 LIBDIR = $(PREFIX)/lib
 CFLAGS = -O2 -Wall -Wextra
 
+ifneq ($(words $(PREFIX)) $(words $(INCLUDEDIR)) $(words $(LIBDIR)),1 1 1)
+$(error a folder with a space in its name is not taken)
+endif
+
 ARCHIVE = target/staticlib/libyildegga.a
 EXAMPLES = $(patsubst c/examples/%.c,target/examples/%,$(wildcard c/examples/*.c))
 PROVED = crates.txt $(shell find crates -name must-fail -prune -o -type f -print)

@@ -19,12 +19,15 @@ mod unwritten;
 mod work;
 
 use lent::Guards::{Bytes, Watched};
+use std::cell::Cell;
 use std::process::exit;
 use work::Counted;
 
 /// The parts of a run: those whose names hold a word.
 struct Parts<'a> {
     word: &'a str,
+    /// Whether any part was run.
+    any: Cell<bool>,
 }
 
 impl Parts<'_> {
@@ -32,6 +35,7 @@ impl Parts<'_> {
         if !name.contains(self.word) {
             return;
         }
+        self.any.set(true);
         match counted() {
             Ok(cases) => println!("ok {name}: {cases} cases"),
             Err(difference) => {
@@ -75,14 +79,24 @@ impl Parts<'_> {
 fn main() {
     fences::watch();
     let words: Vec<String> = std::env::args().skip(1).collect();
-    match words.iter().map(String::as_str).collect::<Vec<_>>()[..] {
-        [] => Parts { word: "" }.whole(),
-        ["memory"] => Parts { word: "" }.memory(),
-        ["memory", word] => Parts { word }.memory(),
-        [word] => Parts { word }.whole(),
+    let (memory, word) = match words.iter().map(String::as_str).collect::<Vec<_>>()[..] {
+        [] => (false, ""),
+        ["memory"] => (true, ""),
+        ["memory", word] => (true, word),
+        [word] => (false, word),
         _ => {
             eprintln!("usage: compare [memory] [WORD]");
             exit(2);
         }
+    };
+    let parts = Parts { word, any: Cell::new(false) };
+    if memory {
+        parts.memory();
+    } else {
+        parts.whole();
+    }
+    if !parts.any.get() {
+        eprintln!("compare: no part has {word} in its name");
+        exit(2);
     }
 }
