@@ -47,7 +47,7 @@ fn put_four(image: &mut [u8], at: usize, four: u64)
 
 // Writes `count` words of `width` bits at the front of the buffer: numerator / (first + j) rounded up, its lowest bits, for each j.
 // The bits that wait for their bytes are kept beside the buffer, which is not read; those above them, which are written, are dropped when
-// the next word comes. Four bytes are written at once while there are as many, and the last ones one by one.
+// the next word comes. Four bytes are written at once as soon as there are as many, and the last ones one by one.
 fn fill(image: &mut [u8], width: u32, count: u32, numerator: u64, first: u32)
     requires { ⌜ (1 ≤ width) × (width ≤ 32) × (first + count < 2 ^ 32) × (byteCount width count ≤ length (now image)) ⌝ }
     ensures { λ r. ⌜ now (image .exit) ≡ packedBytes width (λ (j : ℕ). roundedUp numerator (first + j) % 2 ^ width) count ++ drop (byteCount width count) (now (image .entry)) ⌝ }
@@ -56,23 +56,22 @@ fn fill(image: &mut [u8], width: u32, count: u32, numerator: u64, first: u32)
     let mut left: u32 = 0;
     let mut at: usize = 0;
     let mut j: u32 = 0;
-    loop {
-        if 32 <= left {
-            left -= 32;
-            put_four(image, at, above(waiting, left));
-            at += 4;
-        } else if j < count {
-            let word = below(quotient::rounded_up(numerator, first + j), width);
-            waiting = joined(below(waiting, left), width, word);
-            left += width;
-            j += 1;
-        } else if 8 <= left {
-            left -= 8;
-            image[at] = (above(waiting, left) % 256) as u8;
-            at += 1;
-        } else {
-            break;
+    while j < count {
+        let word = below(quotient::rounded_up(numerator, first + j), width);
+        waiting = joined(below(waiting, left), width, word);
+        left += width;
+        j += 1;
+        if left < 32 {
+            continue;
         }
+        left -= 32;
+        put_four(image, at, above(waiting, left));
+        at += 4;
+    }
+    while 8 <= left {
+        left -= 8;
+        image[at] = (above(waiting, left) % 256) as u8;
+        at += 1;
     }
     if left != 0 {
         image[at] = (joined(below(waiting, left), 8 - left, 0) % 256) as u8;

@@ -1,8 +1,9 @@
--- `building::fill` meets its contract: each turn of its loop gives four bytes, takes a word or gives a byte, by the laws of `Filling`.
--- The measure counts each word to come as one bit more than its width, and each bit that waits as one.
+-- `building::fill` meets its contract: each turn of its first loop takes a word and gives four bytes where as many wait, and each turn of the second
+-- gives one byte of what is left, by the laws of `Filling`. The measures are the words to come and the bits that wait.
 -- Assumes nothing.
 use mathlib.Core.Path.{_≡_, _∙_, ap}
-use Prim.Native.Nat.{ℕ, _+_, _-_, _*_, _%_, _^_}
+use mathlib.Core.List.{List}
+use Prim.Native.Nat.{ℕ, _+_, _-_, _*_, _%_, _^_, _≤_, _<_}
 use native.Mathlib.Nat.{mod-lt}
 use native.Mathlib.Omega.{arith}
 use lib.ListN.{length-set}
@@ -17,134 +18,167 @@ use Rattle.building.proofs.fill.Tie as tie
 abbrev words : ℕ → ℕ → ℕ → ℕ → ℕ
 words numerator first width j = roundedUp numerator (first + j) % 2 ^ width
 
+-- fewer than 32 bits wait for the next word
 abbrev Inv-loop : tie.InvT-loop
 Inv-loop image₀ width count numerator first waiting₀ left₀ at₀ j₀ image waiting left at j =
-    Filling width count (words numerator first width) image₀ image waiting left at j
+    Filling width count (words numerator first width) image₀ image waiting left at j × (left < 32)
 
 abbrev μ-loop : tie.MeasureT-loop
-μ-loop image₀ width count numerator first waiting₀ left₀ at₀ j₀ image waiting left at j = (count - j) * (width + 1) + left
+μ-loop image₀ width count numerator first waiting₀ left₀ at₀ j₀ image waiting left at j = count - j
 
-loop-holds : tie.Need-loop-holds Inv-loop μ-loop
-loop-holds c = start _ _ _ _ (search needs)
+-- a buffer that is being filled when the second loop begins is still being filled
+abbrev Inv-loop2 : tie.InvT-loop2
+Inv-loop2 image₁ width count numerator first waiting left₁ at₁ j image left at =
+    (before : List ℕ) → Filling width count (words numerator first width) before image₁ waiting left₁ at₁ j
+    → Filling width count (words numerator first width) before image waiting left at j
 
-above-requires : tie.Need-above-requires Inv-loop μ-loop
-above-requires c κs = search needs
+abbrev μ-loop2 : tie.MeasureT-loop2
+μ-loop2 image₁ width count numerator first waiting left₁ at₁ j image left at = left
 
-put-four-requires : tie.Need-put-four-requires Inv-loop μ-loop
-put-four-requires c κs =
-    let s = c .before .before .before .loop .inv in
-    omega (arith, has-room s 4 (c .before .before .if1 .taken), kept s)
-
-add-at : tie.Need-add-at Inv-loop μ-loop
-add-at c = omega (arith, has-room (c .before .before .before .before .before .before .loop .inv) 4 (c .before .before .before .before .before .if1 .taken))
-
-loop-less : tie.Need-loop-less Inv-loop μ-loop
-loop-less c = omega (arith, c .before .before .before .before .before .if1 .taken)
-
-loop-again : tie.Need-loop-again Inv-loop μ-loop
-loop-again c =
-    rw (c .before .before .put-four .ensures)
-    (give-four (c .before .before .before .before .before .before .loop .inv) (c .before .before .before .before .before .if1 .taken) _ (c .before .before .before .above .ensures))
-
-add-rounded-up : tie.Need-add-rounded-up Inv-loop μ-loop
-add-rounded-up c = search needs
-
-rounded-up-requires : tie.Need-rounded-up-requires Inv-loop μ-loop
-rounded-up-requires c κs = search needs
-
-below-requires : tie.Need-below-requires Inv-loop μ-loop
-below-requires c κs = search needs
-
-below-requires-2 : tie.Need-below-requires-2 Inv-loop μ-loop
-below-requires-2 c κs = search needs
-
-joined-requires : tie.Need-joined-requires Inv-loop μ-loop
-joined-requires c κs =
+-- the state behind a word that is taken in
+taken-in : (c : tie.After-joined Inv-loop μ-loop Inv-loop2 μ-loop2)
+    → Filling (c .before .before .before .before .before .before .before .args .width) (c .before .before .before .before .before .before .before .args .count)
+    (words (c .before .before .before .before .before .before .before .args .numerator) (c .before .before .before .before .before .before .before .args .first) (c .before .before .before .before .before .before .before .args .width))
+    (c .before .before .before .before .before .before .before .args .image .now) (c .before .before .before .before .before .loop .image)
+    (c .joined .result) (c .before .before .before .before .before .loop .left + c .before .before .before .before .before .before .before .args .width)
+    (c .before .before .before .before .before .loop .at) (c .before .before .before .before .before .loop .j + 1)
+taken-in c =
     let s = c .before .before .before .before .before .loop .inv in
     let w = c .before .before .before .before .before .before .before .args .width in
-    (omega arith, rw (c .below2 .ensures) (joined-fits s (c .before .below .result) w (rw (c .before .below .ensures) (mod-lt _ (pow-pos w))) (omega arith)))
-
-add-left : tie.Need-add-left Inv-loop μ-loop
-add-left c = search needs
-
-add-j : tie.Need-add-j Inv-loop μ-loop
-add-j c = search needs
-
-loop-less-2 : tie.Need-loop-less-2 Inv-loop μ-loop
-loop-less-2 c =
-    let n = c .before .before .before .before .before .before .before .before .args .count in
-    let j = c .before .before .before .before .before .before .loop .j in
-    let w = c .before .before .before .before .before .before .before .before .args .width in
-    let e : n - j ≡ (n - (j + 1)) + 1 = omega arith in
-    omega (arith, ap (λ (x : ℕ). x * (w + 1)) e)
-
-loop-again-2 : tie.Need-loop-again-2 Inv-loop μ-loop
-loop-again-2 c =
-    let s = c .before .before .before .before .before .before .loop .inv in
-    let w = c .before .before .before .before .before .before .before .before .args .width in
     let word = c .before .before .below in
     rw (c .joined .ensures, c .before .below2 .ensures)
-    (take s (word .result)
+    (take (s .0) (word .result)
     (word .ensures ∙ ap (λ (x : ℕ). x % 2 ^ w) (c .before .before .before .rounded-up .ensures))
     (rw (word .ensures) (mod-lt _ (pow-pos w)))
-    (c .before .before .before .before .before .if1 .left)
-    (c .before .before .before .before .if2 .taken))
+    (s .1)
+    (c .before .before .before .before .loop-test .taken))
 
-above-requires-2 : tie.Need-above-requires-2 Inv-loop μ-loop
-above-requires-2 c κs = search needs
+-- and the state in the second loop
+filled : (c : tie.At-loop2 Inv-loop μ-loop Inv-loop2 μ-loop2)
+    → Filling (c .before .before .before .before .args .width) (c .before .before .before .before .args .count)
+    (words (c .before .before .before .before .args .numerator) (c .before .before .before .before .args .first) (c .before .before .before .before .args .width))
+    (c .before .before .before .before .args .image .now) (c .loop2 .image)
+    (c .before .before .loop .waiting) (c .loop2 .left) (c .loop2 .at) (c .before .before .loop .j)
+filled c = c .loop2 .inv _ (c .before .before .loop .inv .0)
 
-cast-image : tie.Need-cast-image Inv-loop μ-loop
+loop-holds : tie.Need-loop-holds Inv-loop μ-loop Inv-loop2 μ-loop2
+loop-holds c = (start _ _ _ _ (search needs), omega arith)
+
+add-rounded-up : tie.Need-add-rounded-up Inv-loop μ-loop Inv-loop2 μ-loop2
+add-rounded-up c = search needs
+
+rounded-up-requires : tie.Need-rounded-up-requires Inv-loop μ-loop Inv-loop2 μ-loop2
+rounded-up-requires c κs = search needs
+
+below-requires : tie.Need-below-requires Inv-loop μ-loop Inv-loop2 μ-loop2
+below-requires c κs = search needs
+
+below-requires-2 : tie.Need-below-requires-2 Inv-loop μ-loop Inv-loop2 μ-loop2
+below-requires-2 c κs = omega (arith, c .before .before .before .loop .inv .1)
+
+joined-requires : tie.Need-joined-requires Inv-loop μ-loop Inv-loop2 μ-loop2
+joined-requires c κs =
+    let s = c .before .before .before .before .loop .inv in
+    let w = c .before .before .before .before .before .before .args .width in
+    (omega arith, rw (c .below2 .ensures) (joined-fits (s .0) (c .before .below .result) w (rw (c .before .below .ensures) (mod-lt _ (pow-pos w))) (omega (arith, s .1))))
+
+add-left : tie.Need-add-left Inv-loop μ-loop Inv-loop2 μ-loop2
+add-left c = omega (arith, c .before .before .before .before .before .loop .inv .1)
+
+add-j : tie.Need-add-j Inv-loop μ-loop Inv-loop2 μ-loop2
+add-j c = search needs
+
+loop-less : tie.Need-loop-less Inv-loop μ-loop Inv-loop2 μ-loop2
+loop-less c = omega (arith, c .before .before .before .before .before .loop-test .taken)
+
+loop-again : tie.Need-loop-again Inv-loop μ-loop Inv-loop2 μ-loop2
+loop-again c = (taken-in (c .before), c .if1 .taken)
+
+above-requires : tie.Need-above-requires Inv-loop μ-loop Inv-loop2 μ-loop2
+above-requires c κs = omega (arith, c .before .before .before .before .before .before .before .loop .inv .1)
+
+put-four-requires : tie.Need-put-four-requires Inv-loop μ-loop Inv-loop2 μ-loop2
+put-four-requires c κs =
+    let s = taken-in (c .before .before .before) in
+    omega (arith, has-room s 4 (omega (arith, c .before .before .if1 .left)), kept s)
+
+add-at : tie.Need-add-at Inv-loop μ-loop Inv-loop2 μ-loop2
+add-at c =
+    omega (arith, has-room (taken-in (c .before .before .before .before .before .before)) 4 (omega (arith, c .before .before .before .before .before .if1 .left)))
+
+loop-less-2 : tie.Need-loop-less-2 Inv-loop μ-loop Inv-loop2 μ-loop2
+loop-less-2 c = omega (arith, c .before .before .before .before .before .before .before .before .before .before .loop-test .taken)
+
+loop-again-2 : tie.Need-loop-again-2 Inv-loop μ-loop Inv-loop2 μ-loop2
+loop-again-2 c =
+    let joined = c .before .before .before .before .before .before in (
+      rw (c .before .before .put-four .ensures)
+          (give-four (taken-in joined) (c .before .before .before .before .before .if1 .left) _ (c .before .before .before .above .ensures)),
+      omega (arith, joined .before .before .before .before .before .loop .inv .1),
+    )
+
+loop2-holds : tie.Need-loop2-holds Inv-loop μ-loop Inv-loop2 μ-loop2
+loop2-holds c = λ before s. s
+
+above-requires-2 : tie.Need-above-requires-2 Inv-loop μ-loop Inv-loop2 μ-loop2
+above-requires-2 c κs = omega (arith, filled (c .before) .short)
+
+cast-image : tie.Need-cast-image Inv-loop μ-loop Inv-loop2 μ-loop2
 cast-image c = search needs
 
-slice-write-image : tie.Need-slice-write-image Inv-loop μ-loop
+slice-write-image : tie.Need-slice-write-image Inv-loop μ-loop Inv-loop2 μ-loop2
 slice-write-image c =
-    let s = c .before .before .before .before .loop .inv in
-    omega (arith, has-room s 1 (c .before .if3 .taken), kept s)
+    let s = filled (c .before .before) in
+    omega (arith, has-room s 1 (c .before .loop2-test .taken), kept s)
 
-add-at-2 : tie.Need-add-at-2 Inv-loop μ-loop
-add-at-2 c = omega (arith, has-room (c .before .before .before .before .loop .inv) 1 (c .before .if3 .taken))
+add-at-2 : tie.Need-add-at-2 Inv-loop μ-loop Inv-loop2 μ-loop2
+add-at-2 c = omega (arith, has-room (filled (c .before .before)) 1 (c .before .loop2-test .taken))
 
-loop-less-3 : tie.Need-loop-less-3 Inv-loop μ-loop
-loop-less-3 c = omega (arith, c .before .if3 .taken)
+loop2-less : tie.Need-loop2-less Inv-loop μ-loop Inv-loop2 μ-loop2
+loop2-less c = omega (arith, c .before .loop2-test .taken)
 
-loop-again-3 : tie.Need-loop-again-3 Inv-loop μ-loop
-loop-again-3 c =
-    let left = c .before .before .before .before .loop .left in
-    give (c .before .before .before .before .loop .inv) (left - 8) _ (omega (arith, c .before .if3 .taken)) (ap (λ (x : ℕ). x % 256) (c .above2 .ensures))
+loop2-again : tie.Need-loop2-again Inv-loop μ-loop Inv-loop2 μ-loop2
+loop2-again c = λ before s.
+    give (c .before .before .loop2 .inv before s) (c .before .before .loop2 .left - 8) _ (omega (arith, c .before .loop2-test .taken)) (ap (λ (x : ℕ). x % 256) (c .above2 .ensures))
 
-below-requires-3 : tie.Need-below-requires-3 Inv-loop μ-loop
-below-requires-3 c κs = search needs
+below-requires-3 : tie.Need-below-requires-3 Inv-loop μ-loop Inv-loop2 μ-loop2
+below-requires-3 c κs = omega (arith, c .before .loop2-test .left)
 
-sub-joined : tie.Need-sub-joined Inv-loop μ-loop
-sub-joined c = search needs
+sub-joined : tie.Need-sub-joined Inv-loop μ-loop Inv-loop2 μ-loop2
+sub-joined c = omega (arith, c .before .before .loop2-test .left)
 
-joined-requires-2 : tie.Need-joined-requires-2 Inv-loop μ-loop
+joined-requires-2 : tie.Need-joined-requires-2 Inv-loop μ-loop Inv-loop2 μ-loop2
 joined-requires-2 c κs =
-    let s = c .before .before .before .before .before .loop .inv in
-    let left = c .before .before .before .before .before .loop .left in
-    (omega arith, rw (c .below3 .ensures) (joined-fits s 0 (8 - left) (pow-pos (8 - left)) (omega arith)))
+    let s = filled (c .before .before .before) in
+    let left = c .before .before .before .loop2 .left in
+    let few = c .before .before .loop2-test .left in
+    (omega (arith, few), rw (c .below3 .ensures) (joined-fits s 0 (8 - left) (pow-pos (8 - left)) (omega (arith, few))))
 
-cast-image-2 : tie.Need-cast-image-2 Inv-loop μ-loop
+cast-image-2 : tie.Need-cast-image-2 Inv-loop μ-loop Inv-loop2 μ-loop2
 cast-image-2 c = search needs
 
-slice-write-image-2 : tie.Need-slice-write-image-2 Inv-loop μ-loop
+slice-write-image-2 : tie.Need-slice-write-image-2 Inv-loop μ-loop Inv-loop2 μ-loop2
 slice-write-image-2 c =
-    let s = c .before .before .before .before .before .before .loop .inv in
-    omega (arith, part-has-room s (c .before .before .before .before .if2 .left) (c .before .before .if4 .taken), kept s)
+    let at = c .before .before .before .before in
+    let s = filled at in
+    omega (arith, part-has-room s (at .before .loop-test .left) (c .before .before .if2 .taken), kept s)
 
-same-length : tie.Need-same-length Inv-loop μ-loop
-same-length c = simp length-set (kept (c .before .before .before .before .before .before .loop .inv))
+same-length : tie.Need-same-length Inv-loop μ-loop Inv-loop2 μ-loop2
+same-length c = simp length-set (kept (filled (c .before .before .before .before)))
 
-returns : tie.Need-returns Inv-loop μ-loop
+returns : tie.Need-returns Inv-loop μ-loop Inv-loop2 μ-loop2
 returns c =
+    let at = c .before .before .before .before in
     rw (c .joined2 .ensures, c .before .below3 .ensures)
-    (finish-part (c .before .before .before .before .before .before .loop .inv) (c .before .before .before .before .if2 .left) (c .before .before .before .if3 .left) (c .before .before .if4 .taken))
+    (finish-part (filled at) (at .before .loop-test .left) (c .before .before .before .loop2-test .left) (c .before .before .if2 .taken))
 
-same-length-2 : tie.Need-same-length-2 Inv-loop μ-loop
-same-length-2 c = kept (c .before .before .before .before .loop .inv)
+same-length-2 : tie.Need-same-length-2 Inv-loop μ-loop Inv-loop2 μ-loop2
+same-length-2 c = kept (filled (c .before .before))
 
-returns-2 : tie.Need-returns-2 Inv-loop μ-loop
-returns-2 c = finish (c .before .before .before .before .loop .inv) (c .before .before .if2 .left) (c .if4 .left)
+returns-2 : tie.Need-returns-2 Inv-loop μ-loop Inv-loop2 μ-loop2
+returns-2 c =
+    let at = c .before .before in
+    finish (filled at) (at .before .loop-test .left) (c .if2 .left)
 
 pub fill-spec : {M : Type 1} → statement M
 fill-spec =
@@ -152,12 +186,9 @@ fill-spec =
     (tie.spec
     Inv-loop
     μ-loop
+    Inv-loop2
+    μ-loop2
     loop-holds
-    above-requires
-    put-four-requires
-    add-at
-    loop-less
-    loop-again
     add-rounded-up
     rounded-up-requires
     below-requires
@@ -165,14 +196,20 @@ fill-spec =
     joined-requires
     add-left
     add-j
+    loop-less
+    loop-again
+    above-requires
+    put-four-requires
+    add-at
     loop-less-2
     loop-again-2
+    loop2-holds
     above-requires-2
     cast-image
     slice-write-image
     add-at-2
-    loop-less-3
-    loop-again-3
+    loop2-less
+    loop2-again
     below-requires-3
     sub-joined
     joined-requires-2
