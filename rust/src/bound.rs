@@ -39,6 +39,27 @@ impl<'a> BoundTable<'a> {
         BoundTable { k, image }
     }
 
+    /// The precision that was bound.
+    ///
+    /// ```
+    /// assert_eq!(yildegga::BoundTable::new(13, &[]).precision(), 13);
+    /// ```
+    #[inline]
+    pub const fn precision(&self) -> u32 {
+        self.k
+    }
+
+    /// The image that was bound.
+    ///
+    /// ```
+    /// let image = [0x02, 0x75, 0x8A];
+    /// assert_eq!(yildegga::BoundTable::new(2, &image).image(), image);
+    /// ```
+    #[inline]
+    pub const fn image(&self) -> &'a [u8] {
+        self.image
+    }
+
     /// What [`node`](crate::node()) gives with this precision and image.
     ///
     /// ```

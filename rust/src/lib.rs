@@ -39,7 +39,7 @@ mod units;
 
 pub use bound::BoundTable;
 pub use image::{build, check, image_length, node, word_bytes, word_range};
-pub use limits::{GREATEST_PRECISION, LEAST_PRECISION, LONGEST_IMAGE, MOST_FRACTION_BITS};
+pub use limits::{last_node, least_fraction_bits, word_bits, GREATEST_PRECISION, LEAST_PRECISION, LONGEST_IMAGE, MOST_FRACTION_BITS};
 pub use operand::reciprocal;
 pub use refusal::{Refusal, Refused};
 pub use units::{TableUnits, Ulps, TABLE_UNITS_IN_ULP};

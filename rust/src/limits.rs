@@ -32,3 +32,53 @@ pub const LONGEST_IMAGE: usize = 13312;
 /// assert_eq!(yildegga::reciprocal(2, &image, MOST_FRACTION_BITS, u64::MAX), Ok(Ulps(16)));
 /// ```
 pub const MOST_FRACTION_BITS: u32 = 63;
+
+/// Whether k is a precision.
+const fn is_precision(k: u32) -> bool {
+    LEAST_PRECISION <= k && k <= GREATEST_PRECISION
+}
+
+/// The number of the last node, 2^k, which is also the number of words; `None` where k is no precision.
+///
+/// ```
+/// assert_eq!(yildegga::last_node(2), Some(4));
+/// assert_eq!(yildegga::last_node(13), None);
+/// ```
+pub const fn last_node(k: u32) -> Option<u32> {
+    if is_precision(k) {
+        Some(1 << k)
+    } else {
+        None
+    }
+}
+
+/// The bits of a word, 2k + 2; `None` where k is no precision.
+///
+/// ```
+/// assert_eq!(yildegga::word_bits(2), Some(6));
+/// ```
+pub const fn word_bits(k: u32) -> Option<u32> {
+    if is_precision(k) {
+        Some(2 * k + 2)
+    } else {
+        None
+    }
+}
+
+/// The fewest fraction bits that an operand has, 2k + 3; `None` where k is no precision.
+///
+/// ```
+/// use yildegga::{least_fraction_bits, reciprocal, Ulps};
+/// let image = [0x02, 0x75, 0x8A];
+/// assert_eq!(least_fraction_bits(2), Some(7));
+/// assert_eq!(reciprocal(2, &image, 7, 128)?, Ulps(32));
+/// assert_eq!(reciprocal(2, &image, 6, 64).unwrap_err().number(), 4);
+/// # Ok::<(), yildegga::Refused>(())
+/// ```
+pub const fn least_fraction_bits(k: u32) -> Option<u32> {
+    if is_precision(k) {
+        Some(2 * k + 3)
+    } else {
+        None
+    }
+}

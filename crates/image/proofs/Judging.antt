@@ -7,7 +7,6 @@ use mathlib.Core.List.{List, [], _∷_}
 use Prim.Native.Nat.{ℕ, _+_, _*_, _%_, _^_, _≤_, _<_}
 use native.Mathlib.Omega.{arith}
 use lib.Dec.{eqb, ltb}
-use lib.ListN.{length}
 use lib.Pow.{pow-pos}
 use borrow.Author.Tests.{lt-ltb, le-ltb, le-leb, eq-eqb, ne-eqb, eqb-true, ltb-true, ltb-false, not-false}
 use Rattle.bools.proofs.Bools.{clash}
@@ -22,18 +21,17 @@ use Rattle.answers.specs.Refusal.{outcome, served}
 use Rattle.answers.proofs.Order.{applied, passed}
 use Rattle.image.specs.Image.{wordOf, nodeOf, isWrongWord, isWrong, judgedWord, judgedNode}
 use Rattle.image.specs.Refusals.{nodeRefusal, wordRefusal}
-use Rattle.image.proofs.Laws.{word-in-buffer}
 use Rattle.image.proofs.Limits.{ImageKept}
 
 -- word j of w bits, which is 0 when judged exactly when it is not M / (first + j) rounded up, less its leading one
-module _ (s : List ℕ) (w M first lead j : ℕ) (one : 1 ≤ w) (wide : w ≤ 32) (there : j * w + w ≤ 8 * length s) (judges : (word : ℕ) → word < 2 ^ w → eqb (judged M first lead j word) 0 ≡ not (eqb word (roundedUp M (first + j) % 2 ^ w))) where
+module _ (s : List ℕ) (w M first lead j : ℕ) (wide : w ≤ 32) (judges : (word : ℕ) → word < 2 ^ w → eqb (judged M first lead j word) 0 ≡ not (eqb word (roundedUp M (first + j) % 2 ^ w))) where
   judged-test : eqb (judgedWord s w M first lead j) 0 ≡ isWrongWord w (λ (i : ℕ). roundedUp M (first + i) % 2 ^ w) s j
   judged-test = rw (le-leb w 32 wide, read-there w s j (omega arith)) (judges (wordAt w s j) (word-lt w s j))
 
-  pub word-0 : judgedWord s w M first lead j ≡ 0 → isWrongWord w (λ (i : ℕ). roundedUp M (first + i) % 2 ^ w) s j ≡ true
+  word-0 : judgedWord s w M first lead j ≡ 0 → isWrongWord w (λ (i : ℕ). roundedUp M (first + i) % 2 ^ w) s j ≡ true
   word-0 e = sym judged-test ∙ eq-eqb (judgedWord s w M first lead j) 0 e
 
-  pub word-not-0 : (judgedWord s w M first lead j ≡ 0 → ⊥) → isWrongWord w (λ (i : ℕ). roundedUp M (first + i) % 2 ^ w) s j ≡ false
+  word-not-0 : (judgedWord s w M first lead j ≡ 0 → ⊥) → isWrongWord w (λ (i : ℕ). roundedUp M (first + i) % 2 ^ w) s j ≡ false
   word-not-0 f = sym judged-test ∙ ne-eqb (judgedWord s w M first lead j) 0 f
 
 -- the nodes of a precision, by the numbers that the judging is told
@@ -63,12 +61,9 @@ module _ (k : ℕ) (s : List ℕ) (j : ℕ) (kept : ImageKept k s) where
     top : 2 * k + 3 < 32
     top = omega (arith, kept .high)
 
-    inside : j * wordWidth k + wordWidth k ≤ 8 * length s
-    inside = word-in-buffer k (kept .low) s j (kept .long) h
-
     judged-not-0 : (wordAtNode k s j ≡ 0 → ⊥) → isWrong k s j ≡ false
     judged-not-0 =
-        word-not-0 s (wordWidth k) (2 ^ (3 * k + 3)) (2 ^ k) (2 ^ (2 * k + 2)) j (omega arith) small inside (λ word l. judged-zero k top j word h l)
+        word-not-0 s (wordWidth k) (2 ^ (3 * k + 3)) (2 ^ k) (2 ^ (2 * k + 2)) j small (λ word l. judged-zero k top j word h l)
 
     judged-value : isWrong k s j ≡ false → wordAtNode k s j ≡ nodeOf k s j
     judged-value e =
@@ -79,7 +74,7 @@ module _ (k : ℕ) (s : List ℕ) (j : ℕ) (kept : ImageKept k s) where
     pub word-wrong : wordAtNode k s j ≡ 0 → wordRefusal k s j .applies ≡ true
     word-wrong e =
         rw (lt-ltb j (2 ^ k) h)
-        (word-0 s (wordWidth k) (2 ^ (3 * k + 3)) (2 ^ k) (2 ^ (2 * k + 2)) j (omega arith) small inside (λ word l. judged-zero k top j word h l) e)
+        (word-0 s (wordWidth k) (2 ^ (3 * k + 3)) (2 ^ k) (2 ^ (2 * k + 2)) j small (λ word l. judged-zero k top j word h l) e)
 
     pub word-right : (wordAtNode k s j ≡ 0 → ⊥) → (wordRefusal k s j .applies ≡ false) × (wordAtNode k s j ≡ nodeOf k s j)
     word-right f = let e = judged-not-0 f in (rw (lt-ltb j (2 ^ k) h) e, judged-value e)

@@ -13,7 +13,7 @@ use borrow.Author.Tests.{eq-eqb, eqb-true, not-false}
 use Rattle.precision.specs.Precision.{wordWidth, wordCount, imageLength}
 use Rattle.nodes.specs.Nodes.{node, storedWord, isRight}
 use Rattle.packing.specs.Packing.{Bytes, byteCount, fillBits}
-use Rattle.packing.proofs.Image.{length-packedBytes, bytes-packedBytes, packed-word, word-of-front, words-front}
+use Rattle.packing.proofs.Image.{length-packedBytes, packed-word, word-of-front, words-front}
 use Rattle.packing.proofs.Words.{word-within}
 use Rattle.image.specs.Image.{image, afterImage, builtBuffer, wordOf, isWrong}
 
@@ -35,10 +35,6 @@ stored-lt k j = mod-lt (node k j) (pow-pos (wordWidth k))
 pub image-word : (k j : ℕ) (t : List ℕ) → j < wordCount k → wordOf k (image k ++ t) j ≡ storedWord k j
 image-word k j t h =
     packed-word (wordWidth k) (storedWord k) (wordCount k) j t (omega arith) (λ i l. stored-lt k i) h
-
--- the image is a list of bytes
-pub image-bytes : (k : ℕ) → Bytes (image k)
-image-bytes k = bytes-packedBytes (wordWidth k) (storedWord k) (wordCount k)
 
 -- a word that is not wrong is the construction's, and the other way round
 pub not-wrong : (k : ℕ) (s : List ℕ) (j : ℕ) → isWrong k s j ≡ false → wordOf k s j ≡ storedWord k j

@@ -21,7 +21,7 @@ fn interpolated(lower: TableUnits, upper: TableUnits, f: u64, piece: u32, unit: 
 }
 
 // The reciprocal of a cut operand t by the words at both ends of its piece, which stand at the top of the window: they are judged, the lower
-// one first. The precision comes and the answer goes as a plain number, which a register carries.
+// one first. The precision comes and the answer goes as a plain number, which a register carries: R, or 2^32 and the node of a wrong word.
 fn between(precision: u32, j: u32, window: u64, t: u64) -> u64
     requires { ⌜ IsPieceOf precision j t ⌝ }
     ensures { λ r. ⌜ carried r ≡ endsOutcome precision (bothIn precision window) t ⌝ }
