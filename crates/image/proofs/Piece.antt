@@ -20,36 +20,40 @@ use Rattle.image.proofs.Judging.{wordAtNode, atNode}
 use Rattle.image.proofs.OwnBytes.{front-length, same-word}
 
 module _ (k : ℕ) (s : List ℕ) (j : ℕ) (kept : ImageKept k s) (below : j < 2 ^ k) (bytes : Bytes (imageFront k s)) where
+  -- what a word at a node is judged to be
+  abbrev as-node : ℕ → ℕ → ℕ
+  as-node i word = judged (2 ^ (3 * k + 3)) (2 ^ k) (2 ^ (2 * k + 2)) i word
+
   -- both words, as they are read
   abbrev both : ℕ
   both = fieldAt (imageFront k s) (j * wordWidth k) (2 * wordWidth k)
 
   -- judging is the same of a word that is read and of one that stands there
-  read : (i : ℕ) → judged (2 ^ (3 * k + 3)) (2 ^ k) (2 ^ (2 * k + 2)) i (wordAt (wordWidth k) s i) ≡ wordAtNode k s i
+  read : (i : ℕ) → as-node i (wordAt (wordWidth k) s i) ≡ wordAtNode k s i
   read i =
       let small : wordWidth k ≤ 32 = omega (arith, kept .high) in
       rw (le-leb (wordWidth k) 32 small, read-there (wordWidth k) s i (omega (arith, small)))
 
-  pub piece-lower : judged (2 ^ (3 * k + 3)) (2 ^ k) (2 ^ (2 * k + 2)) j (both / 2 ^ wordWidth k) ≡ wordAtNode k s j
+  pub piece-lower : as-node j (both / 2 ^ wordWidth k) ≡ wordAtNode k s j
   piece-lower =
-      ap (judged (2 ^ (3 * k + 3)) (2 ^ k) (2 ^ (2 * k + 2)) j)
+      ap (as-node j)
       (words-high (wordWidth k) (imageFront k s) j bytes (omega arith) ∙ same-word k s kept j below)
       ∙ read j
 
   -- behind the last word there are no bytes, which are read as zero bits, and those are judged to be the last node
-  pub piece-upper : judged (2 ^ (3 * k + 3)) (2 ^ k) (2 ^ (2 * k + 2)) (j + 1) (both % 2 ^ wordWidth k) ≡ atNode k s (j + 1)
+  pub piece-upper : as-node (j + 1) (both % 2 ^ wordWidth k) ≡ atNode k s (j + 1)
   piece-upper =
-      ap (judged (2 ^ (3 * k + 3)) (2 ^ k) (2 ^ (2 * k + 2)) (j + 1)) (words-low (wordWidth k) (imageFront k s) j bytes (omega arith))
+      ap (as-node (j + 1)) (words-low (wordWidth k) (imageFront k s) j bytes (omega arith))
       ∙ by (eqb (j + 1) (2 ^ k)) refl
     where
       by : (b : Bool) → eqb (j + 1) (2 ^ k) ≡ b
-          → judged (2 ^ (3 * k + 3)) (2 ^ k) (2 ^ (2 * k + 2)) (j + 1) (wordAt (wordWidth k) (imageFront k s) (j + 1)) ≡ cond b (2 ^ (2 * k + 2)) (wordAtNode k s (j + 1))
+          → as-node (j + 1) (wordAt (wordWidth k) (imageFront k s) (j + 1)) ≡ cond b (2 ^ (2 * k + 2)) (wordAtNode k s (j + 1))
       by false e =
-          ap (judged (2 ^ (3 * k + 3)) (2 ^ k) (2 ^ (2 * k + 2)) (j + 1)) (same-word k s kept (j + 1) (omega (arith, eqb-false (j + 1) (2 ^ k) e)))
+          ap (as-node (j + 1)) (same-word k s kept (j + 1) (omega (arith, eqb-false (j + 1) (2 ^ k) e)))
           ∙ read (j + 1)
       by true e =
           let last = eqb-true (j + 1) (2 ^ k) e in
-          ap (λ (i : ℕ). judged (2 ^ (3 * k + 3)) (2 ^ k) (2 ^ (2 * k + 2)) i (wordAt (wordWidth k) (imageFront k s) i)) last
-          ∙ ap (judged (2 ^ (3 * k + 3)) (2 ^ k) (2 ^ (2 * k + 2)) (2 ^ k))
+          ap (λ (i : ℕ). as-node i (wordAt (wordWidth k) (imageFront k s) i)) last
+          ∙ ap (as-node (2 ^ k))
           (word-past (wordWidth k) (imageFront k s) (2 ^ k) (omega (arith, front-length k s kept, whole-bytes k (kept .low))))
           ∙ judged-last k (omega (arith, kept .high))

@@ -46,7 +46,7 @@ pub fn front(k: Precision, image: &[u8]) -> &[u8]
 
 // What word j of `width` bits of the image stands for, where that is numerator / (first + j) rounded up, and 0 where it is not. Words of
 // more than 32 bits are not judged.
-pub fn judged_word(
+fn judged_word(
     image: &[u8],
     width: u32,
     numerator: u64,

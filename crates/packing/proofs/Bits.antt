@@ -7,7 +7,7 @@ use native.Mathlib.Nat.{mul-one, mul-mod-left}
 use native.Mathlib.Omega.{arith}
 use lib.ListN.{getD}
 use lib.Pow.{pow-add, shl-shr, shr-shr, field, mod-mod-pow}
-use Rattle.packing.specs.Packing.{packed, byteCount, fillBits, packedBytes, bytesValue, Bytes, firstByte, spanBytes, bitsBehind, fieldAt, wordAt, bitAt, bitOfWord}
+use Rattle.packing.specs.Packing.{packed, byteCount, fillBits, packedBytes, bytesValue, Bytes, firstByte, spanBytes, lastByte, fieldAt, wordAt, bitAt, bitOfWord}
 use Rattle.packing.proofs.Bytes.{bytes-append}
 use Rattle.packing.proofs.Words.{word-is-digit}
 use Rattle.packing.proofs.Image.{bytes-packedBytes, value-packedBytes, packed-word}
@@ -22,7 +22,7 @@ word-one s i =
     span : spanBytes 1 i ≡ 1
     span = omega arith
 
-    behind : bitsBehind 1 i ≡ 7 - i % 8
+    behind : 8 * (lastByte 1 i + 1) - (i * 1 + 1) ≡ 7 - i % 8
     behind = omega arith
 
     first : firstByte 1 i + 0 ≡ i / 8

@@ -7,7 +7,7 @@ use native.Mathlib.Nat.{add-zero, zero-add, zero-div, zero-mul, mul-assoc, mod-e
 use native.Mathlib.Omega.{arith}
 use lib.ListN.{getD, length, List·getD-eq-default}
 use lib.Pow.{pow-pos, pow-add, high, low, shr-shr, field, mod-pow-add}
-use Rattle.packing.specs.Packing.{bytesValue, Bytes, fieldAt, windowAt}
+use Rattle.packing.specs.Packing.{bytesValue, Bytes, lastOf, fieldAt, windowAt}
 use Rattle.packing.proofs.Bytes.{value-add}
 use Rattle.packing.proofs.Numbers.{packed-ext, packed-zero, packed-add, packed-front}
 
@@ -41,13 +41,13 @@ covered w s a m r x k h e =
 
 -- the places of the bytes that hold w bits from bit b on: before them, they, and the rest of L bytes
 module _ (b w L : ℕ) (one : 1 ≤ w) (within : b + w ≤ 8 * L) where
-  before : b / 8 + ((b + w - 1) / 8 + 1 - b / 8) + (L - ((b + w - 1) / 8 + 1)) ≡ L
+  before : b / 8 + (lastOf b w + 1 - b / 8) + (L - (lastOf b w + 1)) ≡ L
   before = omega arith
 
-  inside : 8 * ((b + w - 1) / 8 + 1 - b / 8) ≡ (b - 8 * (b / 8)) + w + (8 * ((b + w - 1) / 8 + 1) - (b + w))
+  inside : 8 * (lastOf b w + 1 - b / 8) ≡ (b - 8 * (b / 8)) + w + (8 * (lastOf b w + 1) - (b + w))
   inside = omega arith
 
-  behind : 8 * (L - ((b + w - 1) / 8 + 1)) + (8 * ((b + w - 1) / 8 + 1) - (b + w)) ≡ 8 * L - (b + w)
+  behind : 8 * (L - (lastOf b w + 1)) + (8 * (lastOf b w + 1) - (b + w)) ≡ 8 * L - (b + w)
   behind = omega arith
 
   -- the key law: bits of a byte list are a digit of the number that its first L bytes make
@@ -55,31 +55,31 @@ module _ (b w L : ℕ) (one : 1 ≤ w) (within : b + w ≤ 8 * L) where
       → fieldAt s b w ≡ bytesValue s 0 L / 2 ^ (8 * L - (b + w)) % 2 ^ w
   unfolding fieldAt
   field-is-digit-below s h =
-      sym (covered w s (b / 8) ((b + w - 1) / 8 + 1 - b / 8) (L - ((b + w - 1) / 8 + 1)) (b - 8 * (b / 8)) (8 * ((b + w - 1) / 8 + 1) - (b + w)) (λ i l. h i (subst (λ (x : ℕ). i < x) before l)) inside)
+      sym (covered w s (b / 8) (lastOf b w + 1 - b / 8) (L - (lastOf b w + 1)) (b - 8 * (b / 8)) (8 * (lastOf b w + 1) - (b + w)) (λ i l. h i (subst (λ (x : ℕ). i < x) before l)) inside)
       ∙ ap₂ (λ (x y : ℕ). bytesValue s 0 x / 2 ^ y % 2 ^ w) before behind
 
 -- a number of w bits
 pub field-lt : (s : List ℕ) (b w : ℕ) → fieldAt s b w < 2 ^ w
 unfolding fieldAt
-field-lt s b w = mod-lt (bytesValue s (b / 8) ((b + w - 1) / 8 + 1 - b / 8) / 2 ^ (8 * ((b + w - 1) / 8 + 1) - (b + w))) (pow-pos w)
+field-lt s b w = mod-lt (bytesValue s (b / 8) (lastOf b w + 1 - b / 8) / 2 ^ (8 * (lastOf b w + 1) - (b + w))) (pow-pos w)
 
 -- bits depend on the bytes that hold them alone
 pub field-local : (s t : List ℕ) (b w : ℕ) → 1 ≤ w
-    → ((i : ℕ) → b / 8 ≤ i → i ≤ (b + w - 1) / 8 → getD s i 0 ≡ getD t i 0) → fieldAt s b w ≡ fieldAt t b w
+    → ((i : ℕ) → b / 8 ≤ i → i ≤ lastOf b w → getD s i 0 ≡ getD t i 0) → fieldAt s b w ≡ fieldAt t b w
 unfolding fieldAt
 field-local s t b w one h =
-    ap (λ (x : ℕ). x / 2 ^ (8 * ((b + w - 1) / 8 + 1) - (b + w)) % 2 ^ w)
-    (packed-ext 8 (λ (i : ℕ). getD s (b / 8 + i) 0) (λ (i : ℕ). getD t (b / 8 + i) 0) ((b + w - 1) / 8 + 1 - b / 8)
+    ap (λ (x : ℕ). x / 2 ^ (8 * (lastOf b w + 1) - (b + w)) % 2 ^ w)
+    (packed-ext 8 (λ (i : ℕ). getD s (b / 8 + i) 0) (λ (i : ℕ). getD t (b / 8 + i) 0) (lastOf b w + 1 - b / 8)
     (λ i l. h (b / 8 + i) (omega arith) (omega arith)))
 
 -- past the end of the bytes all bits are 0
 pub field-past : (s : List ℕ) (b w : ℕ) → 8 * length s ≤ b → fieldAt s b w ≡ 0
 unfolding fieldAt
 field-past s b w h =
-    ap (λ (x : ℕ). x / 2 ^ (8 * ((b + w - 1) / 8 + 1) - (b + w)) % 2 ^ w)
-    (packed-ext 8 (λ (i : ℕ). getD s (b / 8 + i) 0) (λ (i : ℕ). 0) ((b + w - 1) / 8 + 1 - b / 8) (λ i l. List·getD-eq-default s 0 (omega arith))
-    ∙ packed-zero 8 ((b + w - 1) / 8 + 1 - b / 8))
-    ∙ ap (λ (x : ℕ). x % 2 ^ w) (zero-div (2 ^ (8 * ((b + w - 1) / 8 + 1) - (b + w))))
+    ap (λ (x : ℕ). x / 2 ^ (8 * (lastOf b w + 1) - (b + w)) % 2 ^ w)
+    (packed-ext 8 (λ (i : ℕ). getD s (b / 8 + i) 0) (λ (i : ℕ). 0) (lastOf b w + 1 - b / 8) (λ i l. List·getD-eq-default s 0 (omega arith))
+    ∙ packed-zero 8 (lastOf b w + 1 - b / 8))
+    ∙ ap (λ (x : ℕ). x % 2 ^ w) (zero-div (2 ^ (8 * (lastOf b w + 1) - (b + w))))
     ∙ mod-eq-of-lt (pow-pos w)
 
 -- bits, then bits
@@ -106,22 +106,22 @@ field-split s b u v h one one′ =
 module _ (s : List ℕ) (b w : ℕ) (hs : Bytes s) (one : 1 ≤ w) (wide : w ≤ 57) where
   -- how many bytes hold them
   abbrev span : ℕ
-  span = (b + w - 1) / 8 + 1 - b / 8
+  span = lastOf b w + 1 - b / 8
 
   eight : span + (8 - span) ≡ 8
   eight = omega arith
 
-  cut-down : (8 - span) * 8 + (8 * ((b + w - 1) / 8 + 1) - (b + w)) ≡ 64 - (b % 8 + w)
+  cut-down : (8 - span) * 8 + (8 * (lastOf b w + 1) - (b + w)) ≡ 64 - (b % 8 + w)
   cut-down = omega arith
 
   by-eight : fieldAt s b w ≡ bytesValue s (b / 8) 8 / 2 ^ (64 - (b % 8 + w)) % 2 ^ w
   unfolding fieldAt
   by-eight =
-      ap (λ (x : ℕ). x / 2 ^ (8 * ((b + w - 1) / 8 + 1) - (b + w)) % 2 ^ w)
+      ap (λ (x : ℕ). x / 2 ^ (8 * (lastOf b w + 1) - (b + w)) % 2 ^ w)
       (sym (packed-front 8 (λ (i : ℕ). getD s (b / 8 + i) 0) span (8 - span) (λ i l. hs (b / 8 + i)))
       ∙ ap (λ (n : ℕ). bytesValue s (b / 8) n / 2 ^ ((8 - span) * 8)) eight)
       ∙ ap (λ (x : ℕ). x % 2 ^ w)
-      (shr-shr (bytesValue s (b / 8) 8) ((8 - span) * 8) (8 * ((b + w - 1) / 8 + 1) - (b + w)) ∙ ap (λ (x : ℕ). bytesValue s (b / 8) 8 / 2 ^ x) cut-down)
+      (shr-shr (bytesValue s (b / 8) 8) ((8 - span) * 8) (8 * (lastOf b w + 1) - (b + w)) ∙ ap (λ (x : ℕ). bytesValue s (b / 8) 8 / 2 ^ x) cut-down)
 
   -- v without the bits before them, down to the last of them
   down : (v o : ℕ) → o + w ≤ 64 → (v * 2 ^ o) % 2 ^ 64 / 2 ^ (64 - w) ≡ v / 2 ^ (64 - (o + w)) % 2 ^ w
@@ -146,7 +146,7 @@ unfolding fieldAt
 window-field s b (suc w) hs wide = moved s b (suc w) hs (omega arith) wide
 window-field s b zero hs wide =
     div-eq-of-lt (mod-lt (bytesValue s (b / 8) 8 * 2 ^ (b % 8)) (pow-pos 64))
-    ∙ sym (mod-one (bytesValue s (b / 8) ((b + 0 - 1) / 8 + 1 - b / 8) / 2 ^ (8 * ((b + 0 - 1) / 8 + 1) - (b + 0))))
+    ∙ sym (mod-one (bytesValue s (b / 8) (lastOf b 0 + 1 - b / 8) / 2 ^ (8 * (lastOf b 0 + 1) - (b + 0))))
 
 -- a window near the end of the bytes: those that are there, and zeros behind them
 module _ (s : List ℕ) (b : ℕ) (below : b / 8 < length s) (near : length s < b / 8 + 8) where

@@ -36,25 +36,25 @@ Bytes s = (i : ℕ) → getD s i 0 < 256
 abbrev pub bytesValue : List ℕ → ℕ → ℕ → ℕ
 bytesValue s a n = packed 8 (λ (i : ℕ). getD s (a + i) 0) n
 
+-- the last of the bytes that hold the w bits from bit b on; the first is b / 8
+abbrev pub lastOf : ℕ → ℕ → ℕ
+lastOf b w = (b + w - 1) / 8
+
 -- the first and the last of the bytes that hold word j
 abbrev pub firstByte : ℕ → ℕ → ℕ
 firstByte w j = j * w / 8
 
 abbrev pub lastByte : ℕ → ℕ → ℕ
-lastByte w j = (j * w + w - 1) / 8
+lastByte w j = lastOf (j * w) w
 
 -- how many bytes hold word j
 abbrev pub spanBytes : ℕ → ℕ → ℕ
 spanBytes w j = lastByte w j + 1 - firstByte w j
 
--- the bits of those bytes that follow word j
-abbrev pub bitsBehind : ℕ → ℕ → ℕ
-bitsBehind w j = 8 * (lastByte w j + 1) - (j * w + w)
-
 -- the number that the w bits from bit b on of any byte list make, the most significant bit of byte 0 being bit 0: what the bytes from
 -- the first to the last of them hold, less the bits behind them and before them; bytes past the end count as 0
 unfoldable pub fieldAt : List ℕ → ℕ → ℕ → ℕ
-fieldAt s b w = bytesValue s (b / 8) ((b + w - 1) / 8 + 1 - b / 8) / 2 ^ (8 * ((b + w - 1) / 8 + 1) - (b + w)) % 2 ^ w
+fieldAt s b w = bytesValue s (b / 8) (lastOf b w + 1 - b / 8) / 2 ^ (8 * (lastOf b w + 1) - (b + w)) % 2 ^ w
 
 -- the bits from bit b on at the top of 64 bits, of which there are 57 or more: eight bytes from the one that holds bit b, moved up past the bits
 -- before it

@@ -1,4 +1,4 @@
-// Words of any width packed into bytes, and read back one at a time.
+// Words of any width packed into bytes: any bits of them are read back, eight bytes at a time.
 ghost use mathlib.Core.Path.{_≡_};
 ghost use Prim.Native.Nat.{_+_, _-_, _≤_, _<_};
 ghost use lib.ListN.{length, getD};

@@ -18,7 +18,7 @@ use Rattle.nodes.specs.Nodes.{node}
 use Rattle.answers.proofs.Order.{isOneOf, listed, avoided, first, later, placed, value-of-0, refused-value, served-value}
 use Rattle.image.specs.Image.{nodeOf}
 use Rattle.image.specs.Refusals.{nodeRefusal, imageRefusal, wordRefusal}
-use Rattle.image.specs.Calls.{buildRefusals, buildOutcome, buildLeaves, checkRefusals, checkOutcome, nodeRefusals, nodeOutcome, shownPart, shownFrom}
+use Rattle.image.specs.Calls.{buildRefusals, buildOutcome, buildLeaves, checkRefusals, checkOutcome, nodeRefusals, nodeOutcome, shownPart, shownFrom, shownCount}
 use Rattle.operand.specs.Operand.{cutOperand}
 use Rattle.interpolation.specs.Algorithm.{nodeNumber}
 use Rattle.interpolation.specs.Reciprocal.{readReciprocal}
@@ -30,7 +30,7 @@ use Rattle.statements.proofs.Built.{left-as-found, built-rest, built-as
 use Rattle.statements.proofs.Nodes.{served-decodes}
 use Rattle.statements.proofs.Numbers.{alone, refuses-1, refuses-2, later-number, first-wrong, node-number-3, node-number-6, node-number-0, node-place}
 use Rattle.statements.proofs.Reciprocals
-use Rattle.statements.proofs.Parts.{shown-empty, shown-length, shown-first, shown-bytes}
+use Rattle.statements.proofs.Parts.{shown-empty, shown-length, shown-first, shown-bytes, shown-none, hidden-at-front}
 
 -- The builder.
 module _ (k : ℕ) (s : List ℕ) where
@@ -206,6 +206,13 @@ module _ (k : ℕ) (s : List ℕ) (j : ℕ) where
   -- an empty part exactly when refusal 1 or 2 applies or j is above 2^k - 1
   pub part-empty : (shownPart k s j ≡ []) ↔ ((IsPrecision k × IsLongEnough k s × (j < 2 ^ k)) → ⊥)
   part-empty = shown-empty k s j
+
+  -- so by its place and number: no bytes, at the front of the image
+  pub part-none : (shownCount k s j ≡ 0) ↔ ((IsPrecision k × IsLongEnough k s × (j < 2 ^ k)) → ⊥)
+  part-none = shown-none k s j
+
+  pub part-at-front : ((IsPrecision k × IsLongEnough k s × (j < 2 ^ k)) → ⊥) → shownFrom k s j ≡ 0
+  part-at-front = hidden-at-front k s j
 
   -- and otherwise it runs from byte floor(j × w / 8) to byte floor((j × w + w - 1) / 8), both included, of the caller's image
   pub part-length : IsPrecision k → IsLongEnough k s → j < 2 ^ k → length (shownPart k s j) ≡ (j * (2 * k + 2) + (2 * k + 2) - 1) / 8 + 1 - j * (2 * k + 2) / 8

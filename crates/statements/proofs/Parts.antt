@@ -3,8 +3,9 @@
 use mathlib.Core.Path.{_≡_, refl, _∙_, ap}
 use mathlib.Core.Logic.{_↔_}
 use mathlib.Core.Bool.{Bool, true, false, cond, not, _||_}
-use mathlib.Core.List.{List, []}
+use mathlib.Core.List.{List, [], _∷_}
 use Prim.Native.Nat.{ℕ, _+_, _-_, _^_, _<_}
+use native.Mathlib.Nat.{suc-ne-zero}
 use native.Mathlib.Omega.{arith}
 use lib.ListN.{length, drop, getD}
 use lib.Seq.{getD-take, getD-drop}
@@ -14,7 +15,7 @@ use Rattle.precision.specs.Precision.{wordWidth}
 use Rattle.packing.specs.Packing.{firstByte, lastByte, spanBytes}
 use Rattle.packing.proofs.Words.{span-ordered}
 use Rattle.image.specs.Image.{wordPart}
-use Rattle.image.specs.Calls.{noImage, shownPart, shownFrom}
+use Rattle.image.specs.Calls.{noImage, shownPart, shownFrom, shownCount}
 use Rattle.image.proofs.Limits.{ImageKept, limit-none, limit-kept, image-limit}
 use Rattle.image.proofs.Shown.{shown-part, shown-from, shown-count}
 use Rattle.statements.specs.Terms.{IsPrecision, IsLongEnough}
@@ -44,6 +45,25 @@ module _ (k : ℕ) (s : List ℕ) (j : ℕ) where
           omega (arith, ap length e, shown-length (t .0) (t .1) (t .2), span-ordered (wordWidth k) j (omega arith))
 
       from : (a b : Bool) → noImage k s ≡ a → ltb j (2 ^ k) ≡ b → ((IsPrecision k × IsLongEnough k s × (j < 2 ^ k)) → ⊥) → cond (a || not b) [] (wordPart k s j) ≡ []
+      from true b e d f = refl
+      from false false e d f = refl
+      from false true e d f =
+          let ok = limit-kept k s (image-limit k s e) in
+          absurd (f ((ok .low, ok .high), ok .long, ltb-true j (2 ^ k) d))
+
+  -- the same by how many bytes there are, and where
+  pub shown-none : (shownCount k s j ≡ 0) ↔ ((IsPrecision k × IsLongEnough k s × (j < 2 ^ k)) → ⊥)
+  shown-none =
+      (λ e. shown-empty .0 (nothing (shownPart k s j) e), λ f. ap length (shown-empty .1 f))
+    where
+      nothing : (l : List ℕ) → length l ≡ 0 → l ≡ []
+      nothing [] e = refl
+      nothing (x ∷ l) e = absurd (suc-ne-zero (length l) e)
+
+  pub hidden-at-front : ((IsPrecision k × IsLongEnough k s × (j < 2 ^ k)) → ⊥) → shownFrom k s j ≡ 0
+  hidden-at-front = from (noImage k s) (ltb j (2 ^ k)) refl refl
+    where
+      from : (a b : Bool) → noImage k s ≡ a → ltb j (2 ^ k) ≡ b → ((IsPrecision k × IsLongEnough k s × (j < 2 ^ k)) → ⊥) → cond (a || not b) 0 (firstByte (wordWidth k) j) ≡ 0
       from true b e d f = refl
       from false false e d f = refl
       from false true e d f =

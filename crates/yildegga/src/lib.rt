@@ -1,4 +1,5 @@
-// The library for C and Rust: its calls under one prefix, over plain numbers and lent bytes. Each has the promise of the call beneath it.
+// The library for C and Rust: its calls under one prefix, over plain numbers and lent bytes. Each promises of its answer and of the lent bytes what
+// the call beneath it does.
 ghost use mathlib.Core.Path.{_≡_};
 ghost use Rattle.answers.specs.Answer.{done, nodeRead, reciprocalGiven, part};
 ghost use Rattle.precision.specs.Precision.{lengthOr0};

@@ -1,4 +1,4 @@
-//! The library, as the C header declares it.
+//! The library, as the C header declares it; declared here once more, so that no code of the Rust crate stands between.
 
 /// What a call answers: the number of a refusal or 0, its place, and the value of a served call in the unit of that call.
 #[repr(C)]

@@ -1,5 +1,6 @@
 -- `building::put_four` meets its contract: a store keeps the buffer's length, so that each of the four lies within it.
 -- Assumes nothing.
+use mathlib.Core.Path.{refl}
 use native.Mathlib.Omega.{arith}
 use lib.ListN.{length-set}
 use borrow.Author.Needs.{needs}
@@ -43,7 +44,7 @@ same-length : tie.Need-same-length
 same-length c = search needs
 
 returns : tie.Need-returns
-returns c = search needs
+returns c = refl
 
 pub put-four-spec : {M : Type 1} → statement M
 put-four-spec =

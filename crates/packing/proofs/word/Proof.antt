@@ -17,7 +17,7 @@ field-requires : tie.Need-field-requires
 field-requires c κs = search needs
 
 returns : tie.Need-returns
-returns c = search needs
+returns c = c .field .ensures .0
 
 pub word-spec : {M : Type 1} → statement M
 word-spec = tie.close (tie.spec mul-field field-requires returns)
