@@ -5,7 +5,7 @@ import random
 
 import reference
 from c_build import C_WARNINGS, ROOT, files, make, pkg_config, prefix, room, run, well
-from examples import lines_of, proof
+from examples import blocks, commands_print, lines_of, proof
 
 EXAMPLES = ["order_image", "proofread", "reciprocals"]
 SANITIZED = 77  # the status of a program that a sanitizer has stopped
@@ -158,6 +158,25 @@ def no_room_for_output():
     return None if (done.returncode, done.stderr) == (2, b"reciprocals: Bad file descriptor\n") else f"{done}"
 
 
+# ---- c/README.md
+
+PAGE = ROOT / "c" / "README.md"
+
+
+def page_program():
+    """The page's program, built as it says, prints what it says."""
+    source, program = room() / "model.c", room() / "model"
+    source.write_text(blocks(PAGE, "c")[0])
+    well("gcc", "-std=c99", *C_WARNINGS, source, "-o", program, *pkg_config(prefix() / "lib", "--cflags", "--libs"))
+    printed, expected = well(program), blocks(PAGE, "text")[0]
+    return None if printed == expected else f"printed {printed!r}, the page has {expected!r}"
+
+
+def page_commands():
+    make("examples")
+    return commands_print(PAGE, ROOT)
+
+
 def tests():
     yield "c: make examples", made
     yield "c: order_image writes the image of each precision", ordered
@@ -166,3 +185,5 @@ def tests():
     yield "c: a caller's mistake is told, with a status", mistakes_told
     yield "c: reciprocals stops at an operand that is no number", mistake_after_work
     yield "c: output that cannot be written is told", no_room_for_output
+    yield "c: the program of c/README.md", page_program
+    yield "c: the commands of c/README.md", page_commands

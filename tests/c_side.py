@@ -118,7 +118,7 @@ def calls_compared():
     asked = collections.defaultdict(set)
     for line in calls_printed().splitlines():
         call, *words = line.split(" ")
-        if call in ("constant", "limits", "length"):
+        if call in ("constant", "limits", "length", "node_8"):
             continue
         if call in ("lent", "null"):
             k, *how = map(int, words)
@@ -159,6 +159,16 @@ def lengths():
         if (by_call, by_macro) != (expected, expected):
             return f"precision {k}: {by_call} by the call, {by_macro} by the macro"
     return None if {*range(21), 2 ** 32 - 1} <= {row[0] for row in rows} else f"asked were {rows}"
+
+
+def constant_nodes():
+    """The nodes of precision 8 that need no image, and 0 above node 256."""
+    rows = [tuple(map(int, row)) for row in printed_below("node_8")]
+    for j, value in rows:
+        if value != reference.value_or_0(8, j):
+            return f"node {j}: {value}, expected {reference.value_or_0(8, j)}"
+    asked = {j for j, _ in rows}
+    return None if {*range(301), 2 ** 31, 2 ** 32 - 1} <= asked else f"asked were {sorted(asked)}"
 
 
 def memory_checked():
@@ -242,6 +252,7 @@ def tests():
     yield "c: the constants of the header are document 01's", constants
     yield "c: the limits of each precision", limits
     yield "c: the image lengths, by the call and by the header", lengths
+    yield "c: the constant nodes of precision 8", constant_nodes
     yield "c: every call around every limit, between guard bytes, by the reference", calls_compared
     yield "c: every call around every limit, under valgrind", memory_checked
     yield "c: no call reads or writes past the image", past_image

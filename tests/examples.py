@@ -1,4 +1,7 @@
-"""What the examples print, those in C and those in Rust alike, by reference.py."""
+"""What the examples print, those in C and those in Rust alike, by reference.py; and what is printed by the commands of a page."""
+import re
+import subprocess
+
 import reference
 
 
@@ -24,3 +27,20 @@ def lines_of(k, n, operands):
     """The exit status of `reciprocals` on operands, and its lines."""
     lines = "".join(line_of(k, n, x) for x in operands)
     return (1 if "refused" in lines else 0), lines
+
+
+def blocks(page, language):
+    """The blocks of a page that are marked as of a language, in their order."""
+    return re.findall(rf"^```{language}\n(.*?)^```$", page.read_text(), re.M | re.S)
+
+
+def commands_print(page, folder, **variables):
+    """Each line of a page's text that begins with `$ ` is a command; run in a folder, it prints the lines below it and no others."""
+    asked = [part for block in blocks(page, "text") for part in re.split(r"^\$ ", block, flags=re.M)[1:]]
+    for part in asked:
+        command, _, expected = part.partition("\n")
+        done = subprocess.run(["sh", "-c", command], cwd=folder, stdin=subprocess.DEVNULL, stdout=subprocess.PIPE, stderr=subprocess.STDOUT,
+                              text=True, timeout=600, **variables)
+        if done.stdout != expected:
+            return f"{command}: printed {done.stdout[:300]!r}, the page has {expected!r}"
+    return None if asked else "the page has no command"

@@ -1,10 +1,8 @@
-"""Tests of the repository: units do not mix, every crate is listed, constant tables follow the rule, contracts stand on every open
-call, must-fail edits are sound."""
+"""Tests of the repository: units do not mix, every crate is listed, contracts stand on every open call, must-fail edits are sound."""
 import pathlib
 import re
 import shutil
 import subprocess
-import sys
 import tempfile
 
 ROOT = pathlib.Path(__file__).resolve().parent.parent
@@ -85,13 +83,6 @@ def formatted():
     return None if done.returncode == 0 else done.stdout[-400:]
 
 
-def tables_follow():
-    """The constant tables and their copies in the proofs are what tests/tables.py makes by the rule."""
-    done = subprocess.run([sys.executable, ROOT / "tests" / "tables.py", "--check"], stdin=subprocess.DEVNULL,
-                          stdout=subprocess.PIPE, stderr=subprocess.STDOUT, text=True, timeout=60)
-    return None if done.returncode == 0 else done.stdout[-400:]
-
-
 def open_functions():
     """Each open function: its crate, its name, and the text of its contract, up to the line that opens the body."""
     for path in sorted(CRATES.glob("*/src/**/*.rt")):
@@ -160,8 +151,21 @@ def edits_named():
     return f"not in docs/CONTRACTS.md: {sorted(edits() - named)}; no such edit: {sorted(named - edits())}"
 
 
-# What is said where a proof file does not fit the code at all: such a refusal shows nothing about the wrong program.
-NOT_A_FACT = ("that can be named from here", "expected type `tie.Need-", ": error[")
+# Crates whose functions are walked by hand: the proof names each operation, so a wrong program there takes lines of the proof with it.
+WALKED = {"binding"}
+
+
+def edits_of_programs():
+    """An edit is of a program or of a definition; only where functions are walked by hand may it change a proof too."""
+    bad = [edit for edit in sorted(edits()) if edit.split("/")[0] not in WALKED
+           and re.search(r"^file: proofs/", (CRATES / edit.replace("/", "/must-fail/")).with_suffix(".edit").read_text(), re.M)]
+    return f"they change a proof: {bad}" if bad else None
+
+
+# What is said where a proof does not fit the code: a need that is not there, code that does not compile, a term to rewrite that the goal
+# does not have. Such a refusal shows nothing about the wrong program.
+NOT_A_FACT = ("that can be named from here", "expected type `tie.Need-", ": error[",
+              "`rw`: no occurrence", "`rw`: no part of", "no equation of the list has an instance")
 
 
 def complaint(log):
@@ -196,9 +200,9 @@ def tests():
     yield "units: ulps are not taken for table units", lambda: units_mixed("table_units_from_ulps", "TableUnits", "Ulps")
     yield "repository: crates.txt lists the folders under crates/", crates_listed
     yield "repository: rt fmt finds nothing to change", formatted
-    yield "repository: the constant tables and their copies follow the rule", tables_follow
     yield "repository: every open function has an ensures and no requires", contracts_stand
     yield "must-fail: two edits or more for each open call, in its section of docs/CONTRACTS.md", enough_edits
     yield "must-fail: each edit begins with a line that says which wrong program it is", edits_say_what
     yield "must-fail: docs/CONTRACTS.md names each edit", edits_named
+    yield "must-fail: no edit changes a proof, but for functions that are walked by hand", edits_of_programs
     yield "must-fail: each edit was refused because a fact fails", refused_for_a_fact

@@ -14,12 +14,13 @@ sys.dont_write_bytecode = True
 import accuracy_page  # noqa: E402
 import c_side  # noqa: E402
 import comparing  # noqa: E402
+import documents  # noqa: E402
 import programs  # noqa: E402
 import repository  # noqa: E402
 import rust_side  # noqa: E402
 import twins  # noqa: E402
 
-PARTS = [programs, repository, c_side, rust_side, twins, comparing, accuracy_page]
+PARTS = [programs, repository, documents, c_side, rust_side, twins, comparing, accuracy_page]
 
 
 def main():

@@ -9,7 +9,7 @@ import tempfile
 
 import reference
 from archives import archive
-from examples import lines_of, proof
+from examples import commands_print, lines_of, proof
 
 ROOT = pathlib.Path(__file__).resolve().parent.parent
 RUST = ROOT / "rust"
@@ -26,12 +26,16 @@ def end(done):
     return None if done.returncode == 0 else f"status {done.returncode}: {(done.stderr + done.stdout).decode()[-1500:]}"
 
 
-def cargo(*words, **variables):
-    """A command of cargo that may fetch nothing, with every warning an error."""
-    archive()
+def variables():
+    """Those that a command of cargo is given: every warning is an error."""
     given = {name: value for name, value in os.environ.items() if name != "YILDEGGA_LIB_DIR"}
-    given |= {"CARGO_TARGET_DIR": str(BUILT), "CARGO_TERM_COLOR": "never", "RUSTFLAGS": "-D warnings", "RUSTDOCFLAGS": "-D warnings"}
-    return run(["cargo", words[0], "--offline", "--locked", *words[1:]], cwd=RUST, env=given | variables)
+    return given | {"CARGO_TARGET_DIR": str(BUILT), "CARGO_TERM_COLOR": "never", "RUSTFLAGS": "-D warnings", "RUSTDOCFLAGS": "-D warnings"}
+
+
+def cargo(*words, **more):
+    """A command of cargo that may fetch nothing."""
+    archive()
+    return run(["cargo", words[0], "--offline", "--locked", *words[1:]], cwd=RUST, env=variables() | more)
 
 
 # ---- the crate's own tests
@@ -107,6 +111,8 @@ def declared():
     for unit in ("TableUnits", "Ulps"):
         if f"pub struct {unit}(pub u64);" not in units:
             return f"{unit} is not a u64"
+    if structs(ours)["TableUnits"] != ["count: u64"]:
+        return f"table units are {structs(ours)['TableUnits']}"
     same = {"Done": "Answer", "NodeRead": "Answer", "ReciprocalGiven": "Answer", "Part": "Part"}
     for name, our in same.items():
         if [re.sub(r"TableUnits|Ulps", "u64", field) for field in theirs[name]] != structs(ours)[our]:
@@ -354,6 +360,11 @@ def output_closed():
     return None
 
 
+def page_commands():
+    examples()
+    return commands_print(RUST / "README.md", RUST, env=variables() | {"CARGO_NET_OFFLINE": "true"})
+
+
 def tests():
     yield "rust: the crate's own tests", own_tests
     yield "rust: the examples in its documentation run, and each open function has one", documentation_runs
@@ -369,3 +380,4 @@ def tests():
     yield "rust: reciprocals are the reference's", reciprocals
     yield f"rust: {len(MISTAKES)} mistakes in calling the examples give a message and an exit status", mistakes
     yield "rust: an example whose output cannot be written says so", output_closed
+    yield "rust: the commands of rust/README.md", page_commands

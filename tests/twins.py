@@ -129,9 +129,18 @@ def same_words():
     return None if in_c == in_rust and len(in_c) == 6 else f"in C {in_c}, in Rust {in_rust}"
 
 
+def same_version():
+    """The pkg-config file and Cargo.toml state one version, and so does Cargo.lock for both packages."""
+    in_c = re.findall(r"^Version: (.*)$", (ROOT / "c" / "yildegga.pc.in").read_text(), re.M)
+    in_rust = re.findall(r'^version = "(.*)"$', (ROOT / "rust" / "Cargo.toml").read_text(), re.M)
+    locked = re.findall(r'^version = "(.*)"$', (ROOT / "rust" / "Cargo.lock").read_text(), re.M)
+    return None if len(in_c) == 1 and in_c == in_rust and locked == 2 * in_c else f"in C {in_c}, in Rust {in_rust}, locked {locked}"
+
+
 def tests():
     for name, cases in ("order_image", order_image), ("proofread", proofread), ("reciprocals", reciprocals):
         yield (f"twins: {name} in C and in Rust, on {len(list(cases()))} calls and inputs",
                lambda name=name, cases=cases: agree(name, cases))
     yield "twins: output that cannot be written, and input that cannot be read", streams_agree
     yield "twins: the words of the refusals", same_words
+    yield "twins: the version", same_version

@@ -89,6 +89,10 @@ yildegga_done yildegga_check(uint32_t k, const uint8_t *image, size_t length);
    Refusals: 1, 2, 3, 6. */
 yildegga_node_read yildegga_node(uint32_t k, const uint8_t *image, size_t length, uint32_t j);
 
+/* Node j of precision 8, from 524288 table units at node 0 down to 262144 at node 256, out of a table of constants in the archive; 0,
+   which no node is, where j is above 256. It takes no image. */
+yildegga_table_units yildegga_node_8(uint32_t j);
+
 /* Where the bytes stand that hold the word of node j, right or wrong; neighbours may share the first and the last of them.
    None are shown where refusal 1 or 2 would apply, or j is above 2^k - 1. */
 yildegga_part yildegga_word_bytes(uint32_t k, const uint8_t *image, size_t length, uint32_t j);

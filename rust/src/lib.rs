@@ -1,11 +1,12 @@
 //! Reciprocal tables for graphics hardware, and the reciprocals taken from them, in which every word and every last place is proved.
 //!
-//! A table has a precision k from 1 to 12. Its image, a string of bit-packed words, stands in bytes that the caller lends, and each
-//! call takes k and those bytes:
+//! A table has a precision k from 1 to 12. Its image, a string of bit-packed words, stands in bytes that the caller lends, and the
+//! calls on it take k and those bytes:
 //!
 //! - [`build`] writes the image, [`image_length`] says how long it is;
 //! - [`check`] tells whether an image is right, and names the lowest node whose word is not;
 //! - [`node`] reads one node, [`word_bytes`] and [`word_range`] show the bytes that hold its word;
+//! - [`node_8`] gives a node of precision 8 without an image;
 //! - [`reciprocal`] gives the reciprocal of an operand, less than one ulp from the exact one;
 //! - a [`BoundTable`] keeps an image and its precision together for many operands.
 //!
@@ -31,6 +32,7 @@
 #![deny(missing_docs)]
 
 mod bound;
+mod eight;
 mod image;
 mod limits;
 mod operand;
@@ -38,8 +40,14 @@ mod refusal;
 mod units;
 
 pub use bound::BoundTable;
+pub use eight::node_8;
 pub use image::{build, check, image_length, node, word_bytes, word_range};
 pub use limits::{last_node, least_fraction_bits, word_bits, GREATEST_PRECISION, LEAST_PRECISION, LONGEST_IMAGE, MOST_FRACTION_BITS};
 pub use operand::reciprocal;
 pub use refusal::{Refusal, Refused};
 pub use units::{TableUnits, Ulps, TABLE_UNITS_IN_ULP};
+
+/// The program of README.md, run with the examples of the documentation.
+#[cfg(doctest)]
+#[doc = include_str!("../README.md")]
+struct Readme;

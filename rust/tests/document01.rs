@@ -4,7 +4,7 @@
 mod common;
 
 use common::{image, said, LENGTHS};
-use yildegga::{build, check, image_length, node, reciprocal, word_bytes, word_range, BoundTable, TableUnits, Ulps};
+use yildegga::{build, check, image_length, node, node_8, reciprocal, word_bytes, word_range, BoundTable, TableUnits, Ulps};
 
 const TWO: [u8; 3] = [0x02, 0x75, 0x8A];
 
@@ -36,6 +36,20 @@ fn nodes_and_images() {
             assert_eq!(node_by_both(k, bytes, j), Ok(TableUnits(value)), "node {j} at k = {k}");
         }
         assert_eq!(node_by_both(k, bytes, nodes.len() as u32), Err((3, 0)));
+    }
+}
+
+/// The constant table of 257 numbers, from 524288 down to 262144, by the rule and by the image of precision 8.
+#[test]
+fn constant_nodes() {
+    let eight = image(8);
+    assert_eq!((node_8(0), node_8(256)), (TableUnits(524288), TableUnits(262144)));
+    for j in 0..=256 {
+        assert_eq!(node_8(j), TableUnits((1u64 << 27).div_ceil(256 + u64::from(j))), "node {j}");
+        assert_eq!(Ok(node_8(j)), node_by_both(8, &eight, j));
+    }
+    for j in (257..1000).chain([1 << 16, (1 << 16) + 1, 1 << 31, (1 << 31) + 256, u32::MAX - 1, u32::MAX]) {
+        assert_eq!(node_8(j), TableUnits(0), "node {j}");
     }
 }
 

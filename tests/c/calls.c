@@ -161,6 +161,24 @@ static void cases(uint32_t k)
     }
 }
 
+static void node_8(uint32_t j)
+{
+    printf("node_8 %" PRIu32 " %" PRIu64 "\n", j, yildegga_node_8(j).count);
+}
+
+/* The constant nodes and numbers above them, among these some that are a node's in fewer bits. */
+static void constant_nodes(void)
+{
+    for (uint32_t j = 0; j <= 300; j++)
+        node_8(j);
+    for (uint32_t power = 512; power; power *= 2) {
+        node_8(power - 1);
+        node_8(power);
+        node_8(power + 256);
+    }
+    node_8(MOST_32);
+}
+
 static void null_buffer(uint32_t k)
 {
     lent = NULL;
@@ -203,6 +221,7 @@ int main(int argc, char **argv)
         return 2;
     guard = (size_t)atoi(argv[1]);
     constants();
+    constant_nodes();
     for (uint32_t each = 0; each <= 20 + COUNT(far); each++) {
         uint32_t k = each <= 20 ? each : far[each - 21];
         printf("length %" PRIu32 " %zu %zu\n", k, yildegga_image_length(k), (size_t)YILDEGGA_IMAGE_LENGTH(k));

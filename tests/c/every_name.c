@@ -49,13 +49,17 @@ int main(void)
     if (units.count != 64)
         return 5;
 
+    units = yildegga_node_8(YILDEGGA_LAST_NODE(8u));
+    if (units.count != 262144)
+        return 6;
+
     yildegga_part part = yildegga_word_bytes(k, image, sizeof image, 1);
     if (part.offset != 0 || part.count != 2 || part.offset * 8 + YILDEGGA_WORD_BITS(k) != 6)
-        return 6;
+        return 7;
 
     yildegga_reciprocal_given given = yildegga_reciprocal(k, image, sizeof image, n, 135);
     yildegga_ulps ulps = given.value;
     if (ulps.count * YILDEGGA_TABLE_UNITS_IN_ULP != 120)
-        return 7;
+        return 8;
     return 0;
 }

@@ -11,11 +11,11 @@ use Rattle.answers.specs.Refusal.{Refusal, Outcome, outcome, turnedBack}
 
 -- a refusal that applies turns the call back
 pub applied : (r : Refusal) (rs : List Refusal) (v : ℕ) → r .applies ≡ true → outcome (r ∷ rs) v ≡ turnedBack r
-applied r rs v e = rw e
+applied r rs v e = rw e refl
 
 -- and one that does not leaves it to those after it
 pub passed : (r : Refusal) (rs : List Refusal) (v : ℕ) → r .applies ≡ false → outcome (r ∷ rs) v ≡ outcome rs v
-passed r rs v e = rw e
+passed r rs v e = rw e refl
 
 -- n is neither 0 nor the number of a refusal in the list
 abbrev pub avoids : ℕ → List Refusal → Bool

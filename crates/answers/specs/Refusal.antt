@@ -1,7 +1,7 @@
 -- Refusals and their order (document 01, "Turned back, in checking order").
 -- Assumes nothing.
 use Prim.Native.Nat.{ℕ}
-use mathlib.Core.Bool.{Bool, cond}
+use mathlib.Core.Bool.{Bool, false, cond, _||_}
 use mathlib.Core.List.{List, [], _∷_}
 
 -- a refusal: whether it applies, its number in the list of document 01, and its place
@@ -29,7 +29,7 @@ abbrev pub outcome : List Refusal → ℕ → Outcome
 outcome [] v = served v
 outcome (r ∷ rs) v = cond (r .applies) (turnedBack r) (outcome rs v)
 
--- the number of the first refusal of the list that applies, and 0 where none does
-abbrev pub firstNumber : List Refusal → ℕ
-firstNumber [] = 0
-firstNumber (r ∷ rs) = cond (r .applies) (r .number) (firstNumber rs)
+-- one of the list applies
+abbrev pub someApplies : List Refusal → Bool
+someApplies [] = false
+someApplies (r ∷ rs) = r .applies || someApplies rs

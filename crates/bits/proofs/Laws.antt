@@ -3,7 +3,7 @@
 use mathlib.Core.Path.{_≡_}
 use Prim.Native.Nat.{ℕ, _^_, _<_}
 use borrow.Author.Tests.{lt-ltb}
-use Rattle.bits.specs.Bits.{powerOr0}
+use Rattle.bits.specs.Inner.{powerOr0}
 
 -- below 64 it is the power itself
 pub power-fits : (n : ℕ) → n < 64 → powerOr0 n ≡ 2 ^ n

@@ -1,6 +1,6 @@
 // Shifts in plain arithmetic, for any count of bits.
 ghost use mathlib.Core.Path.{_≡_};
-ghost use Rattle.bits.specs.Bits.{highBits, lowBits, powerOr0};
+ghost use Rattle.bits.specs.Inner.{highBits, lowBits, powerOr0};
 
 // x without its lowest `count` bits.
 pub fn high(x: u64, count: u32) -> u64

@@ -1,13 +1,13 @@
 // Building the image of a precision in a lent buffer.
 ghost use mathlib.Core.Path.{_≡_};
-ghost use mathlib.Core.List.{_++_};
-ghost use Prim.Native.Nat.{ℕ, _+_, _*_, _/_, _%_, _^_, _≤_, _<_};
-ghost use lib.ListN.{length, drop, set};
-ghost use Rattle.quotient.specs.Quotient.{roundedUp};
-ghost use Rattle.packing.specs.Packing.{packedBytes, byteCount};
+ghost use Prim.Native.Nat.{_+_, _*_, _/_, _%_, _^_, _≤_, _<_};
+ghost use lib.ListN.{length, set};
 ghost use Rattle.answers.specs.Answer.{done};
+ghost use Rattle.layout.specs.Layout.{lengthOf, builtOver};
 ghost use Rattle.image.specs.Calls.{buildOutcome, buildLeaves};
+ghost use Rattle.image.specs.Inner.{layoutOf};
 use answers::Done;
+use nodes::Quotients;
 use precision::Precision;
 
 // x without its lowest `count` bits.
@@ -45,13 +45,17 @@ fn put_four(image: &mut [u8], at: usize, four: u64)
     image[at + 3] = (four % 256) as u8;
 }
 
-// Writes `count` words of `width` bits at the front of the buffer: numerator / (first + j) rounded up, its lowest bits, for each j.
+// Writes the words of a table at the front of the buffer: numerator / (first + j) rounded up, its lowest bits, for each j.
 // The bits that wait for their bytes are kept beside the buffer, which is not read; those above them, which are written, are dropped when
 // the next word comes. Four bytes are written at once as soon as there are as many, and the last ones one by one.
-fn fill(image: &mut [u8], width: u32, count: u32, numerator: u64, first: u32)
-    requires { ⌜ (1 ≤ width) × (width ≤ 32) × (first + count < 2 ^ 32) × (byteCount width count ≤ length (now image)) ⌝ }
-    ensures { λ r. ⌜ now (image .exit) ≡ packedBytes width (λ (j : ℕ). roundedUp numerator (first + j) % 2 ^ width) count ++ drop (byteCount width count) (now (image .entry)) ⌝ }
+fn fill(image: &mut [u8], table: Quotients)
+    requires { ⌜ (1 ≤ table .width) × (table .width ≤ 32) × (table .first + table .count < 2 ^ 32) × (lengthOf (layoutOf table) ≤ length (now image)) ⌝ }
+    ensures { λ r. ⌜ now (image .exit) ≡ builtOver (layoutOf table) (now (image .entry)) ⌝ }
 {
+    let width = table.width;
+    let count = table.count;
+    let numerator = table.numerator;
+    let first = table.first;
     let mut waiting: u64 = 0;
     let mut left: u32 = 0;
     let mut at: usize = 0;
@@ -83,7 +87,7 @@ pub fn build(k: Precision, image: &mut [u8]) -> Done
     ensures { λ r. ⌜ r ≡ done (buildOutcome (k .0) (now (image .entry))) ⌝ }
     ensures { λ r. ⌜ now (image .exit) ≡ buildLeaves (k .0) (now (image .entry)) ⌝ }
 {
-    let number = image::broken_limit(k, image.len());
+    let number = image::refusal_number(k, image.len());
     if number != 0 {
         return Done {
             number,
@@ -91,9 +95,7 @@ pub fn build(k: Precision, image: &mut [u8]) -> Done
             value: 0,
         };
     }
-    let count = k.word_count();
-    let width = k.word_width() as u32;
-    fill(image, width, count, nodes::numerator(k), count);
+    fill(image, nodes::table(k));
     Done {
         number: 0,
         place: 0,

@@ -6,15 +6,18 @@ use mathlib.Core.List.{List, [], _∷_}
 use Prim.Native.Nat.{ℕ, zero, suc, _+_, _^_, _≤_, _<_}
 use native.Mathlib.Omega.{arith}
 use lib.Dec.{ltb}
-use lib.ListN.{length, take, drop, length-take, length-drop}
+use lib.ListN.{length, take, drop}
 use borrow.Author.Tests.{lt-ltb, ltb-true}
-use Rattle.precision.specs.Precision.{wordCount, wordWidth}
-use Rattle.packing.specs.Packing.{firstByte, lastByte, spanBytes}
-use Rattle.packing.proofs.Words.{span-within}
-use Rattle.image.specs.Image.{wordPart}
-use Rattle.image.specs.Calls.{noImage, shownPart, shownFrom, shownCount}
-use Rattle.image.proofs.Laws.{byte-count}
-use Rattle.image.proofs.Limits.{ImageKept, limit-kept, kept-image, image-limit}
+use Rattle.precision.specs.Precision.{wordWidth}
+use Rattle.packing.specs.Packing.{firstByte, spanBytes}
+use Rattle.answers.specs.Refusal.{someApplies}
+use Rattle.layout.specs.Layout.{partOf}
+use Rattle.layout.proofs.Laws.{part-inside, part-length}
+use Rattle.image.specs.Image.{plain}
+use Rattle.image.specs.Refusals.{limits}
+use Rattle.image.specs.Calls.{shownPart, shownFrom, shownCount}
+use Rattle.image.proofs.Laws.{plain-fits}
+use Rattle.image.proofs.Limits.{ImageKept, kept-clear, clear-kept}
 
 -- the length of what was taken takes the same
 take-taken : (n : ℕ) (l : List ℕ) → take (length (take n l)) l ≡ take n l
@@ -23,43 +26,34 @@ take-taken (suc n) [] = refl
 take-taken (suc n) (x ∷ l) = ap (λ (r : List ℕ). x ∷ r) (take-taken n l)
 
 module _ (k : ℕ) (s : List ℕ) (j : ℕ) where
-  -- the bytes of a word lie within a buffer that is long enough
-  inside : ImageKept k s → j < 2 ^ k → lastByte (wordWidth k) j < length s
-  inside kept h = omega (arith, kept .long, span-within (wordWidth k) (wordCount k) j (omega arith) h, byte-count k (kept .low))
-
-  part-length : ImageKept k s → j < 2 ^ k → length (wordPart k s j) ≡ spanBytes (wordWidth k) j
-  part-length kept h =
-      length-take (spanBytes (wordWidth k) j) (drop (firstByte (wordWidth k) j) s)
-      ∙ omega (arith, length-drop (firstByte (wordWidth k) j) s, inside kept h)
-
   -- a word that there is: its part is shown, from its first byte to its last
   module _ (kept : ImageKept k s) (h : j < 2 ^ k) where
-    pub shown-part : shownPart k s j ≡ wordPart k s j
-    shown-part = rw (kept-image k s kept, lt-ltb j (2 ^ k) h)
+    pub shown-part : shownPart k s j ≡ partOf (plain k) s j
+    shown-part = rw (kept-clear k s kept, lt-ltb j (2 ^ k) h)
 
     pub shown-from : shownFrom k s j ≡ firstByte (wordWidth k) j
-    shown-from = rw (kept-image k s kept, lt-ltb j (2 ^ k) h)
+    shown-from = rw (kept-clear k s kept, lt-ltb j (2 ^ k) h)
 
     pub shown-count : shownCount k s j ≡ spanBytes (wordWidth k) j
-    shown-count = ap length shown-part ∙ part-length kept h
+    shown-count = ap length shown-part ∙ part-length (plain k) (plain-fits k) s j h (kept .long)
 
   -- a part lies within the buffer, also one that is empty
   pub shown-inside : shownFrom k s j + shownCount k s j ≤ length s
-  shown-inside = by (noImage k s) (ltb j (2 ^ k)) refl refl
+  shown-inside = by (someApplies (limits k (length s))) (ltb j (2 ^ k)) refl refl
     where
-      by : (a b : Bool) → noImage k s ≡ a → ltb j (2 ^ k) ≡ b
-          → cond (a || not b) 0 (firstByte (wordWidth k) j) + length (cond (a || not b) [] (wordPart k s j)) ≤ length s
+      by : (a b : Bool) → someApplies (limits k (length s)) ≡ a → ltb j (2 ^ k) ≡ b
+          → cond (a || not b) 0 (firstByte (wordWidth k) j) + length (cond (a || not b) [] (partOf (plain k) s j)) ≤ length s
       by true b e d = omega arith
       by false false e d = omega arith
       by false true e d =
-          let kept = limit-kept k s (image-limit k s e) in
+          let kept = clear-kept k s e in
           let h = ltb-true j (2 ^ k) d in
-          omega (arith, part-length kept h, inside kept h)
+          omega (arith, part-length (plain k) (plain-fits k) s j h (kept .long), part-inside (plain k) (plain-fits k) s j h (kept .long))
 
   -- and what is taken from there is what is shown
   pub shown-taken : take (shownCount k s j) (drop (shownFrom k s j) s) ≡ shownPart k s j
-  shown-taken = by (noImage k s || not (ltb j (2 ^ k)))
+  shown-taken = by (someApplies (limits k (length s)) || not (ltb j (2 ^ k)))
     where
-      by : (b : Bool) → take (length (cond b [] (wordPart k s j))) (drop (cond b 0 (firstByte (wordWidth k) j)) s) ≡ cond b [] (wordPart k s j)
+      by : (b : Bool) → take (length (cond b [] (partOf (plain k) s j))) (drop (cond b 0 (firstByte (wordWidth k) j)) s) ≡ cond b [] (partOf (plain k) s j)
       by true = refl
       by false = take-taken (spanBytes (wordWidth k) j) (drop (firstByte (wordWidth k) j) s)

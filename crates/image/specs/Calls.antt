@@ -2,18 +2,20 @@
 -- Assumes nothing.
 use Prim.Native.Nat.{ℕ}
 use mathlib.Core.Bool.{Bool, cond, not, _||_}
-use mathlib.Core.List.{List, [], _∷_}
+use mathlib.Core.List.{List, [], _∷_, _++_}
 use lib.Dec.{ltb, eqb}
-use lib.ListN.{length, take}
-use Rattle.precision.specs.Precision.{wordCount, wordWidth, imageLength}
+use lib.ListN.{length}
+use Rattle.precision.specs.Precision.{wordCount, wordWidth}
 use Rattle.packing.specs.Packing.{firstByte}
-use Rattle.answers.specs.Refusal.{Refusal, Outcome, outcome}
-use Rattle.image.specs.Image.{builtBuffer, nodeOf, wordPart}
-use Rattle.image.specs.Refusals.{isOutOfRange, isTooShort, precisionRefusal, bufferRefusal, nodeRefusal, imageRefusal, wordRefusal}
+use Rattle.answers.specs.Refusal.{Refusal, Outcome, outcome, someApplies}
+use Rattle.layout.specs.Layout.{builtOver, partOf}
+use Rattle.layout.specs.Refusals.{imageRefusal, wordRefusal}
+use Rattle.image.specs.Image.{plain, nodeOf}
+use Rattle.image.specs.Refusals.{nodeRefusal, limits}
 
 -- the refusals of the builder, in checking order: 1 and 2
 abbrev pub buildRefusals : ℕ → List ℕ → List Refusal
-buildRefusals k s = precisionRefusal k ∷ bufferRefusal k s ∷ []
+buildRefusals k s = limits k (length s)
 
 -- the builder's answer; it gives 0
 abbrev pub buildOutcome : ℕ → List ℕ → Outcome
@@ -21,39 +23,31 @@ buildOutcome k s = outcome (buildRefusals k s) 0
 
 -- the buffer after the builder: as found where the call is turned back
 abbrev pub buildLeaves : ℕ → List ℕ → List ℕ
-buildLeaves k s = cond (eqb (buildOutcome k s .number) 0) (builtBuffer k s) s
+buildLeaves k s = cond (eqb (buildOutcome k s .number) 0) (builtOver (plain k) s) s
 
 -- the refusals of the check, in checking order: 1, 2 and 6
 abbrev pub checkRefusals : ℕ → List ℕ → List Refusal
-checkRefusals k s = precisionRefusal k ∷ bufferRefusal k s ∷ imageRefusal k s ∷ []
+checkRefusals k s = limits k (length s) ++ imageRefusal (plain k) s ∷ []
 
 -- the check's answer; it gives 0
 abbrev pub checkOutcome : ℕ → List ℕ → Outcome
 checkOutcome k s = outcome (checkRefusals k s) 0
 
--- the refusals of reading node j, in checking order: 1, 2, 3 and 6
+-- the refusals of reading node j, in checking order: 1, 2, 3 and 6; node 2^k has no word, and never gives 6
 abbrev pub nodeRefusals : ℕ → List ℕ → ℕ → List Refusal
-nodeRefusals k s j = precisionRefusal k ∷ bufferRefusal k s ∷ nodeRefusal k j ∷ wordRefusal k s j ∷ []
+nodeRefusals k s j = limits k (length s) ++ nodeRefusal k j ∷ wordRefusal (plain k) s j ∷ []
 
 -- the answer of reading node j; it gives the node as its word is decoded, in table units
 abbrev pub nodeOutcome : ℕ → List ℕ → ℕ → Outcome
 nodeOutcome k s j = outcome (nodeRefusals k s j) (nodeOf k s j)
 
--- refusal 1 or 2 applies
-abbrev pub noImage : ℕ → List ℕ → Bool
-noImage k s = isOutOfRange k || isTooShort k (length s)
-
--- the image's own bytes, the front of the buffer; none where 1 or 2 applies
-abbrev pub imageFront : ℕ → List ℕ → List ℕ
-imageFront k s = cond (noImage k s) [] (take (imageLength k) s)
-
 -- no bytes are shown: 1 or 2 applies or j is above 2^k - 1
 abbrev pub isHidden : ℕ → List ℕ → ℕ → Bool
-isHidden k s j = noImage k s || not (ltb j (wordCount k))
+isHidden k s j = someApplies (limits k (length s)) || not (ltb j (wordCount k))
 
 -- the bytes of the word of node j, or an empty part
 abbrev pub shownPart : ℕ → List ℕ → ℕ → List ℕ
-shownPart k s j = cond (isHidden k s j) [] (wordPart k s j)
+shownPart k s j = cond (isHidden k s j) [] (partOf (plain k) s j)
 
 -- the byte of the buffer at which that part stands; an empty part stands at the front
 abbrev pub shownFrom : ℕ → List ℕ → ℕ → ℕ

@@ -1,4 +1,4 @@
-pub mod Lowest
 pub mod Image
 pub mod Refusals
 pub mod Calls
+pub mod Inner

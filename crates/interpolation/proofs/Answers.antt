@@ -9,8 +9,8 @@ use native.Mathlib.Omega.{arith}
 use Rattle.nodes.specs.Nodes.{node}
 use Rattle.answers.specs.Refusal.{served}
 use Rattle.answers.proofs.Order.{applied, passed}
-use Rattle.image.specs.Image.{nodeOf}
-use Rattle.image.specs.Refusals.{wordRefusal}
+use Rattle.layout.specs.Refusals.{wordRefusal}
+use Rattle.image.specs.Image.{plain, nodeOf}
 use Rattle.image.proofs.Judging.{right-node}
 use Rattle.interpolation.specs.Algorithm.{nodeNumber, fraction, productSum, chopped, cutReciprocal}
 use Rattle.interpolation.specs.Reciprocal.{readReciprocal}
@@ -18,22 +18,22 @@ use Rattle.interpolation.specs.Calls.{cutOutcome}
 
 module _ (k : ℕ) (s : List ℕ) (t : ℕ) where
   -- the word of node j is wrong
-  pub first-wrong : wordRefusal k s (nodeNumber k t) .applies ≡ true → cutOutcome k s t ≡ record { number = 6; place = nodeNumber k t; value = 0 }
-  first-wrong e = applied (wordRefusal k s (nodeNumber k t)) (wordRefusal k s (nodeNumber k t + 1) ∷ []) (readReciprocal k s t) e
+  pub first-wrong : wordRefusal (plain k) s (nodeNumber k t) .applies ≡ true → cutOutcome k s t ≡ record { number = 6; place = nodeNumber k t; value = 0 }
+  first-wrong e = applied (wordRefusal (plain k) s (nodeNumber k t)) (wordRefusal (plain k) s (nodeNumber k t + 1) ∷ []) (readReciprocal k s t) e
 
-  module _ (first : wordRefusal k s (nodeNumber k t) .applies ≡ false) where
+  module _ (first : wordRefusal (plain k) s (nodeNumber k t) .applies ≡ false) where
     -- it is right, and that of node j + 1 is wrong
-    pub next-wrong : wordRefusal k s (nodeNumber k t + 1) .applies ≡ true → cutOutcome k s t ≡ record { number = 6; place = nodeNumber k t + 1; value = 0 }
+    pub next-wrong : wordRefusal (plain k) s (nodeNumber k t + 1) .applies ≡ true → cutOutcome k s t ≡ record { number = 6; place = nodeNumber k t + 1; value = 0 }
     next-wrong e =
-        passed (wordRefusal k s (nodeNumber k t)) (wordRefusal k s (nodeNumber k t + 1) ∷ []) (readReciprocal k s t) first
-        ∙ applied (wordRefusal k s (nodeNumber k t + 1)) [] (readReciprocal k s t) e
+        passed (wordRefusal (plain k) s (nodeNumber k t)) (wordRefusal (plain k) s (nodeNumber k t + 1) ∷ []) (readReciprocal k s t) first
+        ∙ applied (wordRefusal (plain k) s (nodeNumber k t + 1)) [] (readReciprocal k s t) e
 
-    module _ (next : wordRefusal k s (nodeNumber k t + 1) .applies ≡ false) where
+    module _ (next : wordRefusal (plain k) s (nodeNumber k t + 1) .applies ≡ false) where
       -- both are right
       pub none-wrong : cutOutcome k s t ≡ served (readReciprocal k s t)
       none-wrong =
-          passed (wordRefusal k s (nodeNumber k t)) (wordRefusal k s (nodeNumber k t + 1) ∷ []) (readReciprocal k s t) first
-          ∙ passed (wordRefusal k s (nodeNumber k t + 1)) [] (readReciprocal k s t) next
+          passed (wordRefusal (plain k) s (nodeNumber k t)) (wordRefusal (plain k) s (nodeNumber k t + 1) ∷ []) (readReciprocal k s t) first
+          ∙ passed (wordRefusal (plain k) s (nodeNumber k t + 1)) [] (readReciprocal k s t) next
 
       -- and what they give is R
       pub read-right : nodeNumber k t < 2 ^ k → readReciprocal k s t ≡ cutReciprocal k t

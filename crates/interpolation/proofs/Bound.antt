@@ -13,7 +13,7 @@ use Rattle.interpolation.specs.Reciprocal.{reciprocal}
 use Rattle.interpolation.proofs.Core as core
 use Rattle.interpolation.proofs.Table as table
 use Rattle.interpolation.proofs.Table.{Table}
-use Rattle.interpolation.proofs.Plain.{plain}
+use Rattle.interpolation.proofs.RoundedUp.{keeps}
 use Rattle.interpolation.proofs.Powers as powers
 
 -- one bit more
@@ -37,7 +37,7 @@ module _ (a b k : ℕ) where
       mul-pos (mul-pos (omega arith) (pow-pos b)) (mul-pos (mul-pos (mul-pos (pow-pos k) (pow-pos k)) (pow-pos k)) (pow-pos k))
 
   -- nodes that keep the laws
-  module _ {c H D : ℕ → ℕ} (nodes : Table (2 ^ a) (2 ^ b) (2 ^ k) c H D) where
+  module _ {c E D : ℕ → ℕ} (nodes : Table (2 ^ a) (2 ^ b) (2 ^ k) c E D) where
     -- of a cut operand
     pub cut-low : (t : ℕ) → 2 ^ (2 * k + b) ≤ t → t < 2 ^ (2 * k + (b + 1)) → exactAt < (reciprocalBy c t + 1) * t
     cut-low t l m =
@@ -79,7 +79,7 @@ rounded-up a b k units steps =
     subst
     (λ (M : ℕ). Table (2 ^ a) (2 ^ b) (2 ^ k) (λ (j : ℕ). roundedUp M (2 ^ k + j)) (λ (j : ℕ). 1) (λ (j : ℕ). 2 ^ a - 1))
     (sym (powers.numerator k a b))
-    (plain (2 ^ a) (2 ^ b) (2 ^ k) (pow-mono units) (pow-mono steps) (pow-pos k))
+    (keeps (2 ^ a) (2 ^ b) (2 ^ k) (pow-mono units) (pow-mono steps) (pow-pos k))
 
 -- at two table and three input guard bits: R of every k
 module _ (k n X : ℕ) (enough : 2 * k + 3 ≤ n) (least : 2 ^ n ≤ X) (below : X < 2 ^ (n + 1)) where

@@ -1,6 +1,6 @@
 -- The one-ulp bound of a single piece, over plain numbers and with no division. A piece has the nodes c at i and c' at i + 1; f and g are
 -- its parts before and behind t, so that F = f + g is its width, t = i × F + f and P = c × g + c' × f. The nodes are M / i and M / (i+1),
--- raised by at most H; A = H + D table units make an ulp.
+-- raised by at most E; A = E + D table units make an ulp.
 -- Assumes nothing.
 use mathlib.Core.Logic.{⊎-elim}
 use mathlib.Core.Path.{_≡_, ap}
@@ -32,11 +32,11 @@ module _ (M i c c' f g : ℕ) where
       (mul-pos p (omega arith))
 
 -- the weights, times T, over the common divisor I
-joined : (P I W M H D F T U : ℕ) → P * I ≤ M * W + H * F * I → W * T ≡ F * F * I + U → 4 * (M * U) ≤ 4 * (D * F * I * T) → I * (P * T) ≤ I * (M * (F * F) + (H + D) * F * T)
-joined P I W M H D F T U h e s = omega (arith, mul-le-mul-right T h, ap (λ (x : ℕ). M * x) e)
+joined : (P I W M E D F T U : ℕ) → P * I ≤ M * W + E * F * I → W * T ≡ F * F * I + U → 4 * (M * U) ≤ 4 * (D * F * I * T) → I * (P * T) ≤ I * (M * (F * F) + (E + D) * F * T)
+joined P I W M E D F T U h e s = omega (arith, mul-le-mul-right T h, ap (λ (x : ℕ). M * x) e)
 
-module _ (M i c c' f g H D : ℕ) where
-  weighed-high : c * i ≤ M + H * i → c' * (i + 1) ≤ M + H * (i + 1) → (c * g + c' * f) * (i * (i + 1)) ≤ M * (g * (i + 1) + f * i) + H * (f + g) * (i * (i + 1))
+module _ (M i c c' f g E D : ℕ) where
+  weighed-high : c * i ≤ M + E * i → c' * (i + 1) ≤ M + E * (i + 1) → (c * g + c' * f) * (i * (i + 1)) ≤ M * (g * (i + 1) + f * i) + E * (f + g) * (i * (i + 1))
   weighed-high h h' = omega (arith, mul-le-mul-right (g * (i + 1)) h, mul-le-mul-right (f * i) h')
 
   -- what the interpolation adds is within what the rounding of the nodes leaves free
@@ -45,11 +45,11 @@ module _ (M i c c' f g H D : ℕ) where
       omega (arith, mul-le-mul-right (f + g) room, mul-le-mul-left M (four-times f g))
 
   -- nor is it more than an ulp above the exact value of the next operand
-  pub high : 0 < i → c * i ≤ M + H * i → c' * (i + 1) ≤ M + H * (i + 1) → M * (f + g) + 4 * M * (i + 1) ≤ 4 * D * (i * i * (i + 1)) * (f + g)
-      → (c * g + c' * f) * (i * (f + g) + f + 1) ≤ M * ((f + g) * (f + g)) + (H + D) * (f + g) * (i * (f + g) + f + 1)
+  pub high : 0 < i → c * i ≤ M + E * i → c' * (i + 1) ≤ M + E * (i + 1) → M * (f + g) + 4 * M * (i + 1) ≤ 4 * D * (i * i * (i + 1)) * (f + g)
+      → (c * g + c' * f) * (i * (f + g) + f + 1) ≤ M * ((f + g) * (f + g)) + (E + D) * (f + g) * (i * (f + g) + f + 1)
   high p h h' room =
       le-of-mul-le-mul-left {k = i * (i + 1)}
-      (joined (c * g + c' * f) (i * (i + 1)) (g * (i + 1) + f * i) M H D (f + g) (i * (f + g) + f + 1) (f * g + g * (i + 1) + f * i)
+      (joined (c * g + c' * f) (i * (i + 1)) (g * (i + 1) + f * i) M E D (f + g) (i * (f + g) + f + 1) (f * g + g * (i + 1) + f * i)
       (weighed-high h h') (omega arith) (spare room))
       (mul-pos p (omega arith))
 

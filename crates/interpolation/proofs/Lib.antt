@@ -1,8 +1,9 @@
 pub mod Core
 pub mod Pieces
 pub mod Table
-pub mod Plain
+pub mod RoundedUp
 pub mod Powers
 pub mod Bound
 pub mod Cut
 pub mod Answers
+pub mod BothWords

@@ -1,5 +1,5 @@
 -- The one-ulp bound for every table of nodes that keeps a few laws: K pieces, A = 2^a table units to an ulp and B = 2^b steps of t to
--- each 2^(-2k) of the operand. The nodes exceed the exact values by at most H on each piece, and A - H is D. Of the operand only t is
+-- each 2^(-2k) of the operand. The nodes exceed the exact values by at most E on each piece, and A - E is D. Of the operand only t is
 -- spoken of.
 -- Assumes nothing.
 use mathlib.Core.Path.{_≡_, ap}
@@ -15,15 +15,15 @@ abbrev pub numeratorOf : ℕ → ℕ → ℕ
 numeratorOf A K = 2 * A * (K * K * K)
 
 -- node c(j) belongs to i = K + j; `room` follows from what document 02 calls sound
-pub record Table (A B K : ℕ) (c H D : ℕ → ℕ) : Type 0 where
+pub record Table (A B K : ℕ) (c E D : ℕ → ℕ) : Type 0 where
   pub units : 0 < A
   pub steps : 0 < B
   pub some : 0 < K
   pub falls : (j : ℕ) → j < K → c (j + 1) ≤ c j
   pub above : (j : ℕ) → j ≤ K → numeratorOf A K ≤ c j * (K + j)
-  pub left : (j : ℕ) → j < K → c j * (K + j) ≤ numeratorOf A K + H j * (K + j)
-  pub right : (j : ℕ) → j < K → c (j + 1) * (K + j + 1) ≤ numeratorOf A K + H j * (K + j + 1)
-  pub excess : (j : ℕ) → j < K → H j + D j ≡ A
+  pub left : (j : ℕ) → j < K → c j * (K + j) ≤ numeratorOf A K + E j * (K + j)
+  pub right : (j : ℕ) → j < K → c (j + 1) * (K + j + 1) ≤ numeratorOf A K + E j * (K + j + 1)
+  pub excess : (j : ℕ) → j < K → E j + D j ≡ A
   pub room : (j : ℕ) → j < K → A * B * (K * K * K) + 4 * A * (K * K) * (K + j + 1) ≤ 2 * D j * B * ((K + j) * (K + j) * (K + j + 1))
 
 -- P without its subtraction
@@ -46,9 +46,9 @@ sum-least c c' F f h l =
 low-at : (M i c c' F f g t P : ℕ) → f + g ≡ F → i * F + f ≡ t → P ≡ c * g + c' * f → 0 < i → M ≤ c * i → M ≤ c' * (i + 1) → M * (F * F) ≤ P * t
 low-at M i c c' F f g t P w e s p h h' = rw (s, ← e, ← w) (core.low M i c c' f g p h h')
 
-high-at : (M i c c' H D F f g t P : ℕ) → f + g ≡ F → i * F + f ≡ t → P ≡ c * g + c' * f → 0 < i → c * i ≤ M + H * i → c' * (i + 1) ≤ M + H * (i + 1)
-    → M * F + 4 * M * (i + 1) ≤ 4 * D * (i * i * (i + 1)) * F → P * (t + 1) ≤ M * (F * F) + (H + D) * F * (t + 1)
-high-at M i c c' H D F f g t P w e s p h h' room = rw (s, ← e, ← w) (core.high M i c c' f g H D p h h' (rw w room))
+high-at : (M i c c' E D F f g t P : ℕ) → f + g ≡ F → i * F + f ≡ t → P ≡ c * g + c' * f → 0 < i → c * i ≤ M + E * i → c' * (i + 1) ≤ M + E * (i + 1)
+    → M * F + 4 * M * (i + 1) ≤ 4 * D * (i * i * (i + 1)) * F → P * (t + 1) ≤ M * (F * F) + (E + D) * F * (t + 1)
+high-at M i c c' E D F f g t P w e s p h h' room = rw (s, ← e, ← w) (core.high M i c c' f g E D p h h' (rw w room))
 
 -- the exact value and the unit, by K, A and B
 exact : (A B K : ℕ) → 2 * B * (K * K * K * K) * (A * (B * K)) ≡ 2 * A * (K * K * K) * (B * K * (B * K))
@@ -59,7 +59,7 @@ room-at : (A B K D i : ℕ) → A * B * (K * K * K) + 4 * A * (K * K) * (i + 1) 
     → 2 * A * (K * K * K) * (B * K) + 4 * (2 * A * (K * K * K)) * (i + 1) ≤ 4 * D * (i * i * (i + 1)) * (B * K)
 room-at A B K D i h = omega (arith, mul-le-mul-left (2 * K) h)
 
-module _ {A B K : ℕ} {c H D : ℕ → ℕ} (table : Table A B K c H D) (t : ℕ) (least : K * (B * K) ≤ t) (most : t < 2 * K * (B * K)) where
+module _ {A B K : ℕ} {c E D : ℕ → ℕ} (table : Table A B K c E D) (t : ℕ) (least : K * (B * K) ≤ t) (most : t < 2 * K * (B * K)) where
   abbrev j : ℕ
   j = t / (B * K) - K
 
@@ -107,5 +107,5 @@ module _ {A B K : ℕ} {c H D : ℕ → ℕ} (table : Table A B K c H D) (t : �
       core.chopped-high (2 * B * (K * K * K * K)) (A * (B * K)) productSumAt reciprocalAt t unit
       (div-mul-le-self productSumAt (A * (B * K)))
       (rw (exact A B K)
-      (rw (table .excess j below) at (high-at (numeratorOf A K) (K + j) (c j) (c (j + 1)) (H j) (D j) (B * K) f (B * K - f) t productSumAt whole (pieces.parts K (B * K) t wide least most) sum
+      (rw (table .excess j below) at (high-at (numeratorOf A K) (K + j) (c j) (c (j + 1)) (E j) (D j) (B * K) f (B * K - f) t productSumAt whole (pieces.parts K (B * K) t wide least most) sum
       (omega (arith, table .some)) (table .left j below) (table .right j below) (room-at A B K (D j) (K + j) (table .room j below)))))

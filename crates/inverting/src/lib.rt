@@ -4,65 +4,76 @@ ghost use Prim.Native.Nat.{_/_, _^_};
 ghost use Rattle.answers.specs.Answer.{reciprocalGiven};
 ghost use Rattle.interpolation.specs.Algorithm.{sumOver};
 ghost use Rattle.interpolation.specs.Calls.{cutOutcome, reciprocalOutcome};
-ghost use Rattle.inverting.specs.Cut.{IsCut, IsPiece};
-ghost use Rattle.inverting.specs.Piece.{IsPieceOf, bothIn, endsOutcome, carried};
+ghost use Rattle.inverting.specs.Inner.{IsCut, IsPiece, IsPieceOf, bothIn, endsOutcome, outcomeOf};
 use answers::ReciprocalGiven;
 use precision::Precision;
 use units::TableUnits;
 use units::Ulps;
 
-// R at the fraction f of a piece of width 2^piece between the nodes lower and upper; an ulp is 2^unit of what P counts.
-fn interpolated(lower: TableUnits, upper: TableUnits, f: u64, piece: u32, unit: u32) -> Ulps
-    requires { ⌜ IsPiece (lower .0) (upper .0) f piece ⌝ }
-    ensures { λ r. ⌜ r .0 ≡ sumOver (2 ^ piece) (lower .0) (upper .0) f / 2 ^ unit ⌝ }
+// R between the nodes lower and upper: f is the fraction of their piece, of as many bits, and so many bits of P are chopped off.
+fn interpolated(
+    lower: TableUnits,
+    upper: TableUnits,
+    f: u64,
+    fraction_bits: u32,
+    chopped_bits: u32,
+) -> Ulps
+    requires { ⌜ IsPiece (lower .0) (upper .0) f «fraction_bits» ⌝ }
+    ensures { λ r. ⌜ r .0 ≡ sumOver (2 ^ «fraction_bits») (lower .0) (upper .0) f / 2 ^ «chopped_bits» ⌝ }
 {
-    let sum = lower.0 * bits::power(piece) - (lower.0 - upper.0) * f;
-    Ulps(bits::high(sum, unit))
+    let sum = lower.0 * bits::power(fraction_bits) - (lower.0 - upper.0) * f;
+    Ulps(bits::high(sum, chopped_bits))
 }
 
-// The reciprocal of a cut operand t by the words at both ends of its piece, which stand at the top of the window: they are judged, the lower
-// one first. The precision comes and the answer goes as a plain number, which a register carries: R, or 2^32 and the node of a wrong word.
-fn between(precision: u32, j: u32, window: u64, t: u64) -> u64
+// The reciprocal of a cut operand t by the words of both ends of its piece, which stand at the top of the window: they are judged, the lower
+// end first. The precision comes and the answer goes as a plain number, which a register carries: R, or 2^32 and the node of a wrong word.
+fn by_ends(precision: u32, j: u32, window: u64, t: u64) -> u64
     requires { ⌜ IsPieceOf precision j t ⌝ }
-    ensures { λ r. ⌜ carried r ≡ endsOutcome precision (bothIn precision window) t ⌝ }
+    ensures { λ r. ⌜ outcomeOf r ≡ endsOutcome precision (bothIn precision window) t ⌝ }
 {
-    let k = Precision(precision);
-    let count = k.word_count();
-    let width = k.word_width() as u32;
-    let numerator = nodes::numerator(k);
-    let lead = nodes::lead(k);
+    let table = nodes::table(Precision(precision));
+    let width = table.width;
+    let numerator = table.numerator;
+    let first = table.first;
+    let lead = table.lead;
     let both = bits::high(window, 64 - 2 * width);
-    let lower = nodes::judge(numerator, count, lead, j, bits::high(both, width) as u32);
-    if lower.0 == 0 {
+    let lower = nodes::decoded(lead, j, bits::high(both, width) as u32);
+    if !quotient::rounds_up(numerator, first + j, lower.0 as u32) {
         return 4294967296 + j as u64;
     }
-    let upper = nodes::judge(numerator, count, lead, j + 1, bits::low(both, width) as u32);
-    if upper.0 == 0 {
+    let upper = nodes::decoded(lead, j + 1, bits::low(both, width) as u32);
+    if !quotient::rounds_up(numerator, first + (j + 1), upper.0 as u32) {
         return 4294967297 + j as u64;
     }
-    let piece = precision + 3;
-    interpolated(lower, upper, bits::low(t, piece), piece, precision + 5).0
+    let fraction_bits = precision + 3;
+    interpolated(
+        lower,
+        upper,
+        bits::low(t, fraction_bits),
+        fraction_bits,
+        precision + 5,
+    ).0
 }
 
 // The same, for each precision by code of its own, in which the compiler has constants to shift by.
 fn by_precision(precision: u32, j: u32, window: u64, t: u64) -> u64
     requires { ⌜ IsPieceOf precision j t ⌝ }
-    ensures { λ r. ⌜ carried r ≡ endsOutcome precision (bothIn precision window) t ⌝ }
+    ensures { λ r. ⌜ outcomeOf r ≡ endsOutcome precision (bothIn precision window) t ⌝ }
 {
     match precision {
-        1 => between(1, j, window, t),
-        2 => between(2, j, window, t),
-        3 => between(3, j, window, t),
-        4 => between(4, j, window, t),
-        5 => between(5, j, window, t),
-        6 => between(6, j, window, t),
-        7 => between(7, j, window, t),
-        8 => between(8, j, window, t),
-        9 => between(9, j, window, t),
-        10 => between(10, j, window, t),
-        11 => between(11, j, window, t),
-        12 => between(12, j, window, t),
-        _ => between(precision, j, window, t),
+        1 => by_ends(1, j, window, t),
+        2 => by_ends(2, j, window, t),
+        3 => by_ends(3, j, window, t),
+        4 => by_ends(4, j, window, t),
+        5 => by_ends(5, j, window, t),
+        6 => by_ends(6, j, window, t),
+        7 => by_ends(7, j, window, t),
+        8 => by_ends(8, j, window, t),
+        9 => by_ends(9, j, window, t),
+        10 => by_ends(10, j, window, t),
+        11 => by_ends(11, j, window, t),
+        12 => by_ends(12, j, window, t),
+        _ => by_ends(precision, j, window, t),
     }
 }
 
@@ -72,10 +83,9 @@ fn of_cut(k: Precision, image: &[u8], t: u64) -> ReciprocalGiven
     requires { ⌜ IsCut (k .0) (now image) t ⌝ }
     ensures { λ r. ⌜ r ≡ reciprocalGiven (cutOutcome (k .0) (now (image .entry)) t) ⌝ }
 {
-    let words = image::front(k, image);
     let width = k.word_width();
     let j = bits::high(t, k.0 + 3) as u32 - k.word_count();
-    let window = packing::window(words, (j as u64) * width);
+    let window = packing::window(image::own_bytes(k, image), (j as u64) * width);
     let code = by_precision(k.0, j, window, t);
     if code < 4294967296 {
         return ReciprocalGiven {
@@ -95,7 +105,7 @@ fn of_cut(k: Precision, image: &[u8], t: u64) -> ReciprocalGiven
 pub fn reciprocal(k: Precision, image: &[u8], n: u32, x: u64) -> ReciprocalGiven
     ensures { λ r. ⌜ r ≡ reciprocalGiven (reciprocalOutcome (k .0) (now (image .entry)) n x) ⌝ }
 {
-    let limit = image::broken_limit(k, image.len());
+    let limit = image::refusal_number(k, image.len());
     if limit != 0 {
         return ReciprocalGiven {
             number: limit,
@@ -103,7 +113,7 @@ pub fn reciprocal(k: Precision, image: &[u8], n: u32, x: u64) -> ReciprocalGiven
             value: Ulps(0),
         };
     }
-    let number = operand::broken_limit(k, n, x);
+    let number = operand::refusal_number(k, n, x);
     if number != 0 {
         return ReciprocalGiven {
             number,

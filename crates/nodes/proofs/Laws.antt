@@ -2,27 +2,17 @@
 -- 2 × H × K. At K = 2^k and H = 2^(2k+a) they are the laws of a table with a guard bits.
 -- Assumes nothing.
 use mathlib.Core.Path.{_≡_, refl, sym, ap, _∙_}
-use mathlib.Core.Bool.{Bool, true, false, cond, not, _&&_}
+use mathlib.Core.Bool.{true}
 use Prim.Native.Nat.{ℕ, zero, suc, _+_, _-_, _*_, _%_, _^_, _≤_, _<_}
 use native.Mathlib.Nat.{le-refl, zero-lt-suc, not-suc-le-zero, add-assoc, mul-le-mul, mul-le-mul-left, mul-le-mul-right, mod-eq-of-lt, mod-eq-sub-mod, mul-mod-left, add-mod-left, lt-of-not-le}
 use native.Mathlib.Omega.{arith}
-use lib.Dec.{eqb, ltb}
+use lib.Dec.{eqb}
 use borrow.Author.Tests.{eq-eqb, ne-eqb, eqb-true, lt-ltb, le-leb}
 use Rattle.bools.proofs.Bools.{same}
-use Rattle.quotient.specs.Quotient.{roundedUp, roundsUp}
+use Rattle.quotient.specs.Quotient.{roundedUp}
+use Rattle.quotient.specs.Inner.{roundsUp}
 use Rattle.quotient.proofs.Laws.{reaches, passes-less, unique, rounds-up}
-use Rattle.nodes.specs.Nodes.{decodeUnder, judged}
-
--- a word that is not judged 0 stands for the quotient
-pub judged-is : (M first lead j word : ℕ) → 0 < first + j → (judged M first lead j word ≡ 0 → ⊥) → judged M first lead j word ≡ roundedUp M (first + j)
-judged-is M first lead j word some = by (ltb (decodeUnder lead j word) (2 ^ 32)) (ltb (first + j) (2 ^ 32)) (roundsUp M (first + j) (decodeUnder lead j word)) refl
-  where
-    by : (a b r : Bool) → roundsUp M (first + j) (decodeUnder lead j word) ≡ r
-        → (cond (a && b && r) (decodeUnder lead j word) 0 ≡ 0 → ⊥) → cond (a && b && r) (decodeUnder lead j word) 0 ≡ roundedUp M (first + j)
-    by true true true e f = eqb-true (decodeUnder lead j word) (roundedUp M (first + j)) (sym (rounds-up M (first + j) some (decodeUnder lead j word)) ∙ e)
-    by true true false e f = absurd (f refl)
-    by true false r e f = absurd (f refl)
-    by false b r e f = absurd (f refl)
+use Rattle.nodes.specs.Nodes.{decodeUnder}
 
 -- what is asked of H and K
 pub record Shape (H K : ℕ) : Type 0 where
@@ -139,39 +129,14 @@ module _ {H K : ℕ} (shape : Shape H K) where
       (λ t. eq-eqb word (nodeAt H K j % H) (sym (decode-rest H j word l) ∙ ap (λ (x : ℕ). x % H) (eqb-true _ _ t)))
       (λ t. eq-eqb (decodeUnder H j word) (nodeAt H K j) (right-decodes j word h (eqb-true word (nodeAt H K j % H) t)))
 
-  -- so a word is judged to be the node, or 0
-  pub judges-value : (j word : ℕ) → j < K → word < H → 2 * H < 2 ^ 32 → 2 * K < 2 ^ 32 → judged (2 * H * K) K H j word ≡ cond (eqb word (nodeAt H K j % H)) (nodeAt H K j) 0
-  judges-value j word h l small few =
-      rw (
-        lt-ltb (decodeUnder H j word) (2 ^ 32) (omega (arith, decode-le H j word l)),
-        lt-ltb (K + j) (2 ^ 32) (omega arith),
-        judges j word h l,
-      )
-      (by (eqb word (nodeAt H K j % H)) refl)
-    where
-      by : (b : Bool) → eqb word (nodeAt H K j % H) ≡ b → cond b (decodeUnder H j word) 0 ≡ cond b (nodeAt H K j) 0
-      by true e = right-decodes j word h (eqb-true word (nodeAt H K j % H) e)
-      by false e = refl
-
-  -- and 0 exactly where the word is not the node's
-  pub judges-zero : (j word : ℕ) → j < K → word < H → 2 * H < 2 ^ 32 → 2 * K < 2 ^ 32 → eqb (judged (2 * H * K) K H j word) 0 ≡ not (eqb word (nodeAt H K j % H))
-  judges-zero j word h l small few = rw (judges-value j word h l small few) (by (eqb word (nodeAt H K j % H)))
-    where
-      by : (b : Bool) → eqb (cond b (nodeAt H K j) 0) 0 ≡ not b
-      by true = ne-eqb (nodeAt H K j) 0 (λ e. omega (arith, e, above j h))
-      by false = refl
-
-  -- behind the last word zero bits are judged to be the last node, which is the leading one
-  pub judges-last : H < 2 ^ 32 → 2 * K < 2 ^ 32 → judged (2 * H * K) K H K 0 ≡ H
-  judges-last small few =
+  -- and it passes zero bits behind the last word for the last node, which is the leading one
+  pub judges-last : roundsUp (2 * H * K) (K + K) (decodeUnder H K 0) ≡ true
+  judges-last =
       rw (
         ne-eqb K 0 (λ e. omega (arith, e)),
-        lt-ltb (H + 0) (2 ^ 32) (omega arith),
-        lt-ltb (K + K) (2 ^ 32) (omega arith),
         le-leb (2 * H * K) ((H + 0) * (K + K)) (omega arith),
         lt-ltb ((H + 0) * (K + K)) (2 * H * K + (K + K)) (omega arith),
       )
-      (omega arith)
 
   -- neighbours differ by less than D, where D × K is twice the leading one (document 002, Lemma 1)
   pub near : (D : ℕ) → D * K ≡ 2 * H → K < D → (j : ℕ) → nodeAt H K j < nodeAt H K (j + 1) + D

@@ -1,20 +1,22 @@
 -- The laws of the nodes, of their words and of decoding, at every k.
 -- Assumes nothing.
 use mathlib.Core.Path.{_≡_, refl, sym, ap, _∙_}
-use mathlib.Core.Bool.{true, false, cond, not, and-false}
+use mathlib.Core.Bool.{true, false, and-false}
 use Prim.Native.Nat.{ℕ, _+_, _-_, _*_, _%_, _^_, _≤_, _<_}
+use native.Mathlib.Nat.{mod-eq-of-lt}
 use native.Mathlib.Omega.{arith}
 use lib.Dec.{eqb}
 use lib.Pow.{pow-pos, pow-lt}
 use borrow.Author.Tests.{eq-eqb, ne-eqb, eqb-true, le-leb, lt-leb}
 use Rattle.precision.specs.Precision.{wordWidth, inRange}
 use Rattle.quotient.specs.Quotient.{roundedUp}
-use Rattle.quotient.proofs.Laws.{antitone}
-use Rattle.nodes.specs.Nodes.{node, storedWord, decodeUnder, decode, isRight, judged, nodeOr0}
+use Rattle.quotient.specs.Inner.{numeratorBits, roundsUp}
+use Rattle.quotient.proofs.Laws.{antitone, rounds-up}
+use Rattle.nodes.specs.Nodes.{numerator, node, leadingOne, storedWord, decodeUnder, decode, nodeOr0}
 use Rattle.nodes.proofs.Laws as laws
 use Rattle.nodes.proofs.Laws.{Shape, nodeAt}
 use Rattle.nodes.proofs.Powers as powers
-use Rattle.nodes.proofs.Powers.{numerator, double, step, step-wide}
+use Rattle.nodes.proofs.Powers.{double, step, step-wide}
 
 module _ (k : ℕ) where
   shape : Shape (2 ^ (2 * k + 2)) (2 ^ k)
@@ -22,7 +24,7 @@ module _ (k : ℕ) where
 
   -- node j over plain numbers
   pub node-at : (j : ℕ) → node k j ≡ nodeAt (2 ^ (2 * k + 2)) (2 ^ k) j
-  node-at j = ap (λ (M : ℕ). roundedUp M (2 ^ k + j)) (numerator k 2)
+  node-at j = ap (λ (M : ℕ). roundedUp M (2 ^ k + j)) (powers.numerator k 2)
 
   -- the double of the leading one
   pub lead-double : 2 * 2 ^ (2 * k + 2) ≡ 2 ^ (2 * k + 3)
@@ -78,34 +80,33 @@ module _ (k : ℕ) where
   decode-before j word h = rw (ne-eqb j (2 ^ k) (λ e. omega (arith, e)))
 
   -- a right word decodes to the node
-  pub decode-right : (j word : ℕ) → j < 2 ^ k → isRight k j word ≡ true → decode k j word ≡ node k j
-  decode-right j word h t =
+  pub decode-right : (j word : ℕ) → j < 2 ^ k → word ≡ storedWord k j → decode k j word ≡ node k j
+  decode-right j word h e =
       decode-before j word h
-      ∙ laws.right-decodes shape j word h
-      (eqb-true word (storedWord k j) t ∙ ap (λ (c : ℕ). c % 2 ^ (2 * k + 2)) (node-at j))
+      ∙ laws.right-decodes shape j word h (e ∙ ap (λ (c : ℕ). c % 2 ^ (2 * k + 2)) (node-at j))
       ∙ sym (node-at j)
 
-  -- the word of node j is judged to be the node where it is right, and 0 where it is not
-  pub judged-at : 2 * k + 3 < 32 → (j word : ℕ) → j < 2 ^ k → word < 2 ^ wordWidth k
-      → judged (2 ^ (3 * k + 3)) (2 ^ k) (2 ^ (2 * k + 2)) j word ≡ cond (isRight k j word) (node k j) 0
-  judged-at top j word h l =
-      let few : k + 1 < 32 = omega arith in
-      rw (numerator k 2)
-      (laws.judges-value shape j word h l (rw lead-double (pow-lt top)) (rw (← double k) (pow-lt few)))
+  -- what a word stands for has at most 2k + 3 bits and one more
+  pub decode-most : (j word : ℕ) → word < 2 ^ wordWidth k → decodeUnder (leadingOne k) j word ≤ 2 ^ (2 * k + 3)
+  decode-most j word l = rw (← lead-double) (laws.decode-le (2 ^ (2 * k + 2)) j word l)
 
-  pub judged-zero : 2 * k + 3 < 32 → (j word : ℕ) → j < 2 ^ k → word < 2 ^ wordWidth k
-      → eqb (judged (2 ^ (3 * k + 3)) (2 ^ k) (2 ^ (2 * k + 2)) j word) 0 ≡ not (isRight k j word)
-  judged-zero top j word h l =
-      let few : k + 1 < 32 = omega arith in
-      rw (numerator k 2)
-      (laws.judges-zero shape j word h l (rw lead-double (pow-lt top)) (rw (← double k) (pow-lt few)))
+  -- all of the numerator counts
+  pub numerator-whole : k ≤ 12 → numeratorBits (numerator k) ≡ numerator k
+  numerator-whole h = let few : 3 * k + 3 < 63 = omega arith in mod-eq-of-lt (pow-lt few)
 
-  -- zero bits behind the last word are judged to be the last node
-  pub judged-last : 2 * k + 3 < 32 → judged (2 ^ (3 * k + 3)) (2 ^ k) (2 ^ (2 * k + 2)) (2 ^ k) 0 ≡ 2 ^ (2 * k + 2)
-  judged-last top =
-      let few : k + 1 < 32 = omega arith in
-      let small : 2 * k + 2 < 32 = omega arith in
-      rw (numerator k 2) (laws.judges-last shape (pow-lt small) (rw (← double k) (pow-lt few)))
+  -- the test by a product says whether a word is the node's
+  pub word-judged : (j word : ℕ) → j < 2 ^ k → word < 2 ^ wordWidth k → roundsUp (numerator k) (2 ^ k + j) (decodeUnder (leadingOne k) j word) ≡ eqb word (storedWord k j)
+  word-judged j word h l = rw (powers.numerator k 2) (laws.judges shape j word h l)
+
+  -- and passes zero bits behind the last word for the last node
+  pub last-judged : roundsUp (numerator k) (2 ^ k + 2 ^ k) (decodeUnder (leadingOne k) (2 ^ k) 0) ≡ true
+  last-judged = rw (powers.numerator k 2) (laws.judges-last shape)
+
+  -- what passes at node j is the node
+  pub passed-is-node : (j c : ℕ) → roundsUp (numerator k) (2 ^ k + j) c ≡ true → c ≡ node k j
+  passed-is-node j c e =
+      let some : 0 < 2 ^ k + j = omega (arith, pow-pos k) in
+      eqb-true c (node k j) (sym (rounds-up (numerator k) (2 ^ k + j) some c) ∙ e)
 
   -- nodes and words stand where k is a precision and j is in the table, and nowhere else
   pub node-there : inRange k ≡ true → (j : ℕ) → j ≤ 2 ^ k → nodeOr0 k j ≡ node k j

@@ -2,10 +2,10 @@
 -- document 002, Algorithm 1).
 -- Assumes nothing.
 use Prim.Native.Nat.{ℕ, _+_, _*_, _%_, _^_}
-use mathlib.Core.Bool.{Bool, cond, _&&_}
-use lib.Dec.{leb, ltb, eqb}
+use mathlib.Core.Bool.{cond, _&&_}
+use lib.Dec.{leb, eqb}
 use Rattle.precision.specs.Precision.{wordWidth, lastNode, inRange}
-use Rattle.quotient.specs.Quotient.{roundedUp, roundsUp}
+use Rattle.quotient.specs.Quotient.{roundedUp}
 
 -- what is divided to give a node
 abbrev pub numerator : ℕ → ℕ
@@ -32,27 +32,6 @@ decodeUnder lead j word = cond (eqb j 0 && eqb word 0) (2 * lead) (lead + word)
 abbrev pub decode : ℕ → ℕ → ℕ → ℕ
 decode k j word = cond (eqb j (lastNode k)) (leadingOne k) (decodeUnder (leadingOne k) j word)
 
--- the word is the construction's at node j; none of more than w bits is
-abbrev pub isRight : ℕ → ℕ → ℕ → Bool
-isRight k j word = eqb word (storedWord k j)
-
 -- c(j) where k is a precision and j is from 0 to 2^k; elsewhere 0, which no node is
 abbrev pub nodeOr0 : ℕ → ℕ → ℕ
 nodeOr0 k j = cond (inRange k && leb j (lastNode k)) (node k j) 0
-
--- what is divided to give a node of precision k, and 0 where k is no precision
-abbrev pub numeratorOr0 : ℕ → ℕ
-numeratorOr0 k = cond (inRange k) (numerator k) 0
-
--- the leading one that a word of precision k leaves out, and 0 where k is no precision
-abbrev pub leadOr0 : ℕ → ℕ
-leadOr0 k = cond (inRange k) (leadingOne k) 0
-
--- what a word stands for is M / i rounded up, with i = first + j; numbers of more than 32 bits are not judged
-abbrev pub standsFor : ℕ → ℕ → ℕ → ℕ → ℕ → Bool
-standsFor M first lead j word =
-    ltb (decodeUnder lead j word) (2 ^ 32) && ltb (first + j) (2 ^ 32) && roundsUp M (first + j) (decodeUnder lead j word)
-
--- what a word stands for, where that is M / i rounded up, and 0, which no node is, where it is not
-abbrev pub judged : ℕ → ℕ → ℕ → ℕ → ℕ → ℕ
-judged M first lead j word = cond (standsFor M first lead j word) (decodeUnder lead j word) 0

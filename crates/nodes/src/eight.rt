@@ -271,5 +271,12 @@ pub fn node_8(j: u32) -> TableUnits
     if 256 < j {
         return TableUnits(0);
     }
-    TableUnits(NODES_8[j as usize] as u64)
+    TableUnits(wide(NODES_8[j as usize]))
+}
+
+// An entry in 64 bits.
+fn wide(entry: u32) -> u64
+    ensures { λ r. ⌜ r ≡ entry ⌝ }
+{
+    entry as u64
 }

@@ -2,8 +2,7 @@
 -- Assumes nothing.
 use Prim.Native.Nat.{ℕ}
 use mathlib.Core.Bool.{not}
-use mathlib.Core.List.{[], _∷_}
-use Rattle.answers.specs.Refusal.{Refusal, firstNumber}
+use Rattle.answers.specs.Refusal.{Refusal}
 use Rattle.operand.specs.Operand.{isFractionCount, isNormalised}
 
 -- 4: n is below 2k + 3 or above 63
@@ -13,7 +12,3 @@ fractionRefusal k n = record { applies = not (isFractionCount k n); number = 4; 
 -- 5: X is not from 2^n to 2^(n+1) - 1
 abbrev pub operandRefusal : ℕ → ℕ → Refusal
 operandRefusal n X = record { applies = not (isNormalised n X); number = 5; place = 0 }
-
--- the number of the first of these two that applies, 0 where neither does
-abbrev pub brokenOperand : ℕ → ℕ → ℕ → ℕ
-brokenOperand k n X = firstNumber (fractionRefusal k n ∷ operandRefusal n X ∷ [])

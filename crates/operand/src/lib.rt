@@ -1,7 +1,7 @@
 // An operand X with n fraction bits: the limits that it must keep, and how it is cut for the table.
 ghost use mathlib.Core.Path.{_≡_};
 ghost use Rattle.operand.specs.Operand.{cutBits, cutOperand, isFractionCount, mostBits};
-ghost use Rattle.operand.specs.Refusals.{brokenOperand};
+ghost use Rattle.operand.specs.Inner.{operandNumber};
 use precision::Precision;
 
 // The most fraction bits of an operand: with its leading one it has 64.
@@ -24,9 +24,9 @@ fn is_fraction_count(k: Precision, n: u32) -> bool
     n <= MOST_BITS
 }
 
-// The number of the limit that n and x break at precision k, 4 or 5, and 0 where both are kept.
-pub fn broken_limit(k: Precision, n: u32, x: u64) -> u32
-    ensures { λ r. ⌜ r ≡ brokenOperand (k .0) n x ⌝ }
+// The number of the refusal, 4 or 5, of n and x at precision k, and 0 where neither applies.
+pub fn refusal_number(k: Precision, n: u32, x: u64) -> u32
+    ensures { λ r. ⌜ r ≡ operandNumber (k .0) n x ⌝ }
     ensures { λ r. do ⌜ (← ⟦MOST_BITS⟧ .entry) ≡ mostBits ⌝ }
 {
     if !is_fraction_count(k, n) {

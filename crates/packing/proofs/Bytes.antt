@@ -24,6 +24,13 @@ bytes-append [] t hs ht i = ht i
 bytes-append (x ∷ s) t hs ht zero = hs 0
 bytes-append (x ∷ s) t hs ht (suc i) = bytes-append s t (λ j. hs (suc j)) ht i
 
+-- the first n of them
+pub bytes-take : (n : ℕ) (s : List ℕ) → Bytes s → Bytes (take n s)
+bytes-take zero s hs i = omega arith
+bytes-take (suc n) [] hs i = hs i
+bytes-take (suc n) (x ∷ s) hs zero = hs 0
+bytes-take (suc n) (x ∷ s) hs (suc i) = bytes-take n s (λ j. hs (suc j)) i
+
 -- one byte
 pub bytes-one : (b : ℕ) → b < 256 → Bytes (b ∷ [])
 bytes-one b h zero = h

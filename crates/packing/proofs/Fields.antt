@@ -7,7 +7,8 @@ use native.Mathlib.Nat.{add-zero, zero-add, zero-div, zero-mul, mul-assoc, mod-e
 use native.Mathlib.Omega.{arith}
 use lib.ListN.{getD, length, List·getD-eq-default}
 use lib.Pow.{pow-pos, pow-add, high, low, shr-shr, field, mod-pow-add}
-use Rattle.packing.specs.Packing.{bytesValue, Bytes, lastOf, fieldAt, windowAt}
+use Rattle.packing.specs.Packing.{bytesValue, Bytes, lastOf, fieldAt}
+use Rattle.packing.specs.Inner.{windowAt}
 use Rattle.packing.proofs.Bytes.{value-add}
 use Rattle.packing.proofs.Numbers.{packed-ext, packed-zero, packed-add, packed-front}
 

@@ -7,7 +7,8 @@ use mathlib.Core.List.{List}
 use borrow.Author.Tests.{le-leb, lt-leb}
 use lib.Dec.{leb}
 use lib.Pow.{pow-pos}
-use Rattle.packing.specs.Packing.{fieldAt, fieldRead, wordAt, wordRead, widest}
+use Rattle.packing.specs.Packing.{fieldAt, wordAt}
+use Rattle.packing.specs.Inner.{fieldRead, wordRead, widest}
 use Rattle.packing.proofs.Fields.{field-lt}
 
 -- too many bits

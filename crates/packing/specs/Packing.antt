@@ -2,8 +2,6 @@
 -- Assumes nothing.
 use Prim.Native.Nat.{ℕ, zero, suc, _+_, _-_, _*_, _/_, _%_, _^_, _<_}
 use mathlib.Core.List.{List, [], _∷_, _++_}
-use mathlib.Core.Bool.{cond}
-use lib.Dec.{leb}
 use lib.ListN.{getD}
 
 -- the number that the first n words of w bits make, written one after the other
@@ -56,11 +54,6 @@ spanBytes w j = lastByte w j + 1 - firstByte w j
 unfoldable pub fieldAt : List ℕ → ℕ → ℕ → ℕ
 fieldAt s b w = bytesValue s (b / 8) (lastOf b w + 1 - b / 8) / 2 ^ (8 * (lastOf b w + 1) - (b + w)) % 2 ^ w
 
--- the bits from bit b on at the top of 64 bits, of which there are 57 or more: eight bytes from the one that holds bit b, moved up past the bits
--- before it
-abbrev pub windowAt : List ℕ → ℕ → ℕ
-windowAt s b = (bytesValue s (b / 8) 8 * 2 ^ (b % 8)) % 2 ^ 64
-
 -- the word at j: the w bits from bit j × w on
 unfoldable pub wordAt : ℕ → List ℕ → ℕ → ℕ
 wordAt w s j = fieldAt s (j * w) w
@@ -72,15 +65,3 @@ bitAt s i = getD s (i / 8) 0 / 2 ^ (7 - i % 8) % 2
 -- bit b of a word of w bits, the most significant bit being bit 0
 abbrev pub bitOfWord : ℕ → ℕ → ℕ → ℕ
 bitOfWord w v b = v / 2 ^ (w - 1 - b) % 2
-
--- the most bits that are read at once: with up to 7 bits before them they lie within 8 bytes
-abbrev pub widest : ℕ
-widest = 57
-
--- the w bits from bit b on, and 0 where they are too many to be read at once
-abbrev pub fieldRead : List ℕ → ℕ → ℕ → ℕ
-fieldRead s b w = cond (leb w widest) (fieldAt s b w) 0
-
--- the word at j, and 0 where it is too wide
-abbrev pub wordRead : ℕ → List ℕ → ℕ → ℕ
-wordRead w s j = fieldRead s (j * w) w

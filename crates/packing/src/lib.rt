@@ -1,11 +1,19 @@
-// Words of any width packed into bytes: any bits of them are read back, eight bytes at a time.
+// Words of any width packed into bytes: how many they take, and any bits of them read back, eight bytes at a time.
 ghost use mathlib.Core.Path.{_≡_};
 ghost use Prim.Native.Nat.{_+_, _-_, _≤_, _<_};
 ghost use lib.ListN.{length, getD};
-ghost use Rattle.packing.specs.Packing.{bytesValue, windowAt, fieldRead, wordRead, widest};
+ghost use Rattle.packing.specs.Packing.{bytesValue, byteCount};
+ghost use Rattle.packing.specs.Inner.{windowAt, fieldRead, wordRead, widest};
 
 // The most bits that are read at once: with up to 7 bits before them they lie within 8 bytes.
 pub const WIDEST: u32 = 57;
+
+// The bytes that `count` words of `width` bits take, with the bits that fill the last one.
+pub fn byte_count(width: u32, count: u32) -> u64
+    ensures { λ r. ⌜ r ≡ byteCount width count ⌝ }
+{
+    ((count as u64) * (width as u64) + 7) / 8
+}
 
 // A byte as a number.
 fn byte(s: &[u8], at: usize) -> u64

@@ -1,1 +1,2 @@
 pub mod Precision
+pub mod Inner

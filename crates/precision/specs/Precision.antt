@@ -1,8 +1,9 @@
 -- The notion of a precision k (document 01, "Quantities" and "The image").
 -- Assumes nothing.
-use Prim.Native.Nat.{ℕ, _+_, _*_, _/_, _^_}
+use Prim.Native.Nat.{ℕ, _+_, _*_, _^_}
 use mathlib.Core.Bool.{Bool, cond, _&&_}
 use lib.Dec.{leb}
+use Rattle.packing.specs.Packing.{byteCount}
 
 -- the least precision
 abbrev pub least : ℕ
@@ -24,17 +25,13 @@ wordWidth k = 2 * k + 2
 abbrev pub lastNode : ℕ → ℕ
 lastNode k = 2 ^ k
 
--- the words of an image: one for each node below the last
+-- the words of an image: one for each node below the last, which has none
 abbrev pub wordCount : ℕ → ℕ
-wordCount k = 2 ^ k
+wordCount k = lastNode k
 
--- the words of an image, and 0 where k is no precision
-abbrev pub wordsOr0 : ℕ → ℕ
-wordsOr0 k = cond (inRange k) (wordCount k) 0
-
--- the bytes of an image: 2^k × (2k + 2) / 8, which is a whole number (`whole-bytes` in the image's laws)
+-- the bytes of an image, which its words fill (2^k × (2k + 2) / 8 of them: `image-bytes` and `image-whole` in Demand2)
 abbrev pub imageLength : ℕ → ℕ
-imageLength k = wordCount k * wordWidth k / 8
+imageLength k = byteCount (wordWidth k) (wordCount k)
 
 -- the bytes of the longest image
 abbrev pub longestImage : ℕ

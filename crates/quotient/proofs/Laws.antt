@@ -1,21 +1,22 @@
 -- The laws of a quotient rounded up: the least whole number whose product with the divisor reaches the numerator.
 -- Assumes nothing.
 use mathlib.Core.Path.{_≡_, sym}
-use mathlib.Core.Bool.{and-eq-true-iff}
-use Prim.Native.Nat.{ℕ, suc, _+_, _-_, _*_, _/_, _≤_, _<_}
+use mathlib.Core.Bool.{_&&_, and-eq-true-iff}
+use Prim.Native.Nat.{ℕ, suc, _+_, _-_, _*_, _/_, _%_, _^_, _≤_, _<_}
 use native.Mathlib.Nat.{div-zero, div-mul-le-self, lt-div-mul-add, div-lt-iff-lt-mul, div-eq-of-lt-le, mul-le-mul-left}
 use native.Mathlib.Omega.{arith}
-use lib.Dec.{ltb, eqb}
+use lib.Dec.{leb, ltb, eqb}
 use borrow.Author.Tests.{le-leb, lt-ltb, leb-true, ltb-true, eq-eqb, eqb-true}
 use Rattle.bools.proofs.Bools.{same}
-use Rattle.quotient.specs.Quotient.{roundedUp, roundsUp}
+use Rattle.quotient.specs.Quotient.{roundedUp}
+use Rattle.quotient.specs.Inner.{roundsUp}
 
--- a number that reaches M passes it by less than i exactly when it is below M + i
-pub passes-test : (p M i : ℕ) → M ≤ p → ltb (p - M) i ≡ ltb p (M + i)
-passes-test p M i h =
+-- r, which is p - M modulo 2^64, is below i exactly when p reaches M and passes it by less than i
+pub wrapped-test : (r p M i : ℕ) → r < 2 ^ 64 → M + i ≤ 2 ^ 64 → (r + M) % 2 ^ 64 ≡ p → ltb r i ≡ (leb M p && ltb p (M + i))
+wrapped-test r p M i fits room wraps =
     same _ _
-    (λ t. lt-ltb p (M + i) (omega (arith, ltb-true (p - M) i t)))
-    (λ t. lt-ltb (p - M) i (omega (arith, ltb-true p (M + i) t)))
+    (λ t. let below = ltb-true r i t in let e : r + M ≡ p = omega (arith, below) in rw (le-leb M p (omega arith), lt-ltb p (M + i) (omega arith)))
+    (λ t. let both = and-eq-true-iff (leb M p) (ltb p (M + i)) .0 t in lt-ltb r i (omega (arith, leb-true M p (both .0), ltb-true p (M + i) (both .1))))
 
 -- a divisor of 0 gives 0
 pub by-zero : (M : ℕ) → roundedUp M 0 ≡ 0

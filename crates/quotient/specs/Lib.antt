@@ -1,1 +1,2 @@
 pub mod Quotient
+pub mod Inner

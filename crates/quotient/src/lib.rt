@@ -1,6 +1,7 @@
 // A quotient rounded up to a whole number, and a test of one by a product alone.
 ghost use mathlib.Core.Path.{_≡_};
-ghost use Rattle.quotient.specs.Quotient.{roundedUp, roundsUp};
+ghost use Rattle.quotient.specs.Quotient.{roundedUp};
+ghost use Rattle.quotient.specs.Inner.{numeratorBits, roundsUp};
 
 // numerator / divisor rounded up, 0 where the divisor is 0.
 pub fn rounded_up(numerator: u64, divisor: u32) -> u64
@@ -15,13 +16,12 @@ pub fn rounded_up(numerator: u64, divisor: u32) -> u64
     if rest == 0 { down } else { down + 1 }
 }
 
-// Whether value is the quotient rounded up, without dividing; never where the divisor is 0.
+// Whether value is the quotient rounded up, by a product and one comparison: where the product does not reach the numerator, the difference wraps to
+// a number that is not below the divisor. Never where the divisor is 0. Of the numerator the lowest 63 bits count, so that this holds of every
+// input and a loop has nothing to test.
 pub fn rounds_up(numerator: u64, divisor: u32, value: u32) -> bool
-    ensures { λ r. ⌜ r ≡ roundsUp numerator divisor value ⌝ }
+    ensures { λ r. ⌜ r ≡ roundsUp (numeratorBits numerator) divisor value ⌝ }
 {
     let product = (value as u64) * (divisor as u64);
-    if product < numerator {
-        return false;
-    }
-    product - numerator < divisor as u64
+    std::num::wrapping_sub_u64(product, numerator % 9223372036854775808) < divisor as u64
 }

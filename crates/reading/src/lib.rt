@@ -8,11 +8,11 @@ use answers::Part;
 use precision::Precision;
 use units::TableUnits;
 
-// The value of node j; its own word alone is read, and none at node 2^k.
+// The value of node j; its own word alone is read, and none at node 2^k, which is the leading one.
 pub fn node(k: Precision, image: &[u8], j: u32) -> NodeRead
     ensures { λ r. ⌜ r ≡ nodeRead (nodeOutcome (k .0) (now (image .entry)) j) ⌝ }
 {
-    let number = image::broken_limit(k, image.len());
+    let number = image::refusal_number(k, image.len());
     if number != 0 {
         return NodeRead {
             number,
@@ -20,7 +20,8 @@ pub fn node(k: Precision, image: &[u8], j: u32) -> NodeRead
             value: TableUnits(0),
         };
     }
-    let count = k.word_count();
+    let table = nodes::table(k);
+    let count = table.count;
     if count < j {
         return NodeRead {
             number: 3,
@@ -28,10 +29,16 @@ pub fn node(k: Precision, image: &[u8], j: u32) -> NodeRead
             value: TableUnits(0),
         };
     }
-    let width = k.word_width() as u32;
-    let words = image::front(k, image);
-    let c = image::judged_node(words, width, nodes::numerator(k), count, nodes::lead(k), j);
-    if c.0 == 0 {
+    if j == count {
+        return NodeRead {
+            number: 0,
+            place: 0,
+            value: TableUnits(table.lead as u64),
+        };
+    }
+    let word = packing::word(image::own_bytes(k, image), table.width, j);
+    let c = nodes::decoded(table.lead, j, word as u32);
+    if !quotient::rounds_up(table.numerator, table.first + j, c.0 as u32) {
         return NodeRead {
             number: 6,
             place: j as u64,
@@ -59,15 +66,15 @@ fn no_bytes() -> Part
 pub fn word_part(k: Precision, image: &[u8], j: u32) -> Part
     ensures { λ r. ⌜ r ≡ part (shownFrom (k .0) (now (image .entry)) j) (shownCount (k .0) (now (image .entry)) j) ⌝ }
 {
-    let number = image::broken_limit(k, image.len());
+    let number = image::refusal_number(k, image.len());
     if number != 0 {
         return no_bytes();
     }
-    let count = k.word_count();
-    if count <= j {
+    let table = nodes::table(k);
+    if table.count <= j {
         return no_bytes();
     }
-    let width = k.word_width();
+    let width = table.width as u64;
     let bit = (j as u64) * width;
     let first = (bit / 8) as usize;
     let past = ((bit + width + 7) / 8) as usize;

@@ -2,23 +2,24 @@
 -- Assumes nothing.
 use mathlib.Core.Path.{_≡_, refl, sym, _∙_, ap}
 use mathlib.Core.Bool.{Bool, true, false, cond}
-use mathlib.Core.List.{List, [], _∷_, append-nil}
+use mathlib.Core.List.{List, [], _∷_}
 use Prim.Native.Nat.{ℕ, _+_, _*_, _%_, _^_, _≤_, _<_}
 use native.Mathlib.Nat.{le-of-eq}
 use lib.ListN.{length, take, drop}
-use lib.Seq.{drop-at}
-use lib.Dec.{eqb, lit<}
+use lib.Dec.{eqb}
 use borrow.Author.Tests.{le-ltb, eqb-true, ne-eqb}
-use Rattle.precision.specs.Precision.{imageLength, wordCount, wordWidth}
-use Rattle.nodes.specs.Nodes.{node, storedWord}
+use Rattle.precision.specs.Precision.{imageLength}
+use Rattle.nodes.specs.Nodes.{node}
 use Rattle.packing.specs.Packing.{bitAt, bitOfWord}
-use Rattle.packing.proofs.Bits.{bit-of-packed}
 use Rattle.answers.specs.Refusal.{Outcome, served}
-use Rattle.image.specs.Image.{image, builtBuffer, afterImage, isWrong, firstWrong, nodeOf}
-use Rattle.image.specs.Refusals.{nodeRefusal, imageRefusal, wordRefusal}
+use Rattle.layout.specs.Layout.{builtOver, isWrong, firstWrong}
+use Rattle.layout.specs.Refusals.{imageRefusal, wordRefusal}
+use Rattle.layout.proofs.Laws as layouts
+use Rattle.image.specs.Image.{plain, image, nodeOf}
+use Rattle.image.specs.Refusals.{nodeRefusal}
 use Rattle.image.specs.Calls.{buildOutcome, buildLeaves, checkOutcome, nodeOutcome}
-use Rattle.image.proofs.Laws.{built-front, image-length, image-word, built-length, right-not-wrong, stored-lt}
-use Rattle.image.proofs.Lowest.{lowest-none}
+use Rattle.image.proofs.Laws.{plain-fits}
+use Rattle.bools.proofs.Lowest.{lowest-none}
 use Rattle.image.proofs.Judging.{node-served}
 use Rattle.operand.specs.Operand.{cutOperand}
 use Rattle.interpolation.specs.Algorithm.{nodeNumber}
@@ -35,41 +36,39 @@ module _ (k : ℕ) (s : List ℕ) where
   pub left-as-found : (buildOutcome k s .number ≡ 0 → ⊥) → buildLeaves k s ≡ s
   left-as-found f = rw (ne-eqb (buildOutcome k s .number) 0 f)
 
-  by-image : (P : List ℕ → Type 0) → P s → (1 ≤ k → IsLongEnough k s → P (builtBuffer k s)) → P (buildLeaves k s)
+  by-image : (P : List ℕ → Type 0) → P s → (IsLongEnough k s → P (builtOver (plain k) s)) → P (buildLeaves k s)
   by-image P found built = go (eqb (buildOutcome k s .number) 0) refl
     where
-      go : (b : Bool) → eqb (buildOutcome k s .number) 0 ≡ b → P (cond b (builtBuffer k s) s)
+      go : (b : Bool) → eqb (buildOutcome k s .number) 0 ≡ b → P (cond b (builtOver (plain k) s) s)
       go true e =
-          let t = later-number k s [] 0 0 tt tt .0 (eqb-true (buildOutcome k s .number) 0 e) in
-          built (t .0 .0) (t .1 .0)
+          built (later-number k s [] 0 0 tt tt .0 (eqb-true (buildOutcome k s .number) 0 e) .1 .0)
       go false e = found
 
   pub built-rest : drop (imageLength k) (buildLeaves k s) ≡ drop (imageLength k) s
   built-rest =
-      by-image (λ t. drop (imageLength k) t ≡ drop (imageLength k) s) refl
-      (λ one l. drop-at (image k) (afterImage k s) (imageLength k) (image-length k one))
+      by-image (λ t. drop (imageLength k) t ≡ drop (imageLength k) s) refl (λ l. layouts.built-rest (plain k) s)
 
   pub built-as-long : length (buildLeaves k s) ≡ length s
-  built-as-long = by-image (λ t. length t ≡ length s) refl (λ one l. built-length k one s l)
+  built-as-long = by-image (λ t. length t ≡ length s) refl (layouts.built-length (plain k) s)
 
   -- a precision and a long enough buffer are built
-  pub built : IsPrecision k → IsLongEnough k s → buildLeaves k s ≡ builtBuffer k s
-  built p l = ap (λ (o : Outcome). cond (eqb (o .number) 0) (builtBuffer k s) s) (kept-answer k s [] 0 p l)
+  pub built : IsPrecision k → IsLongEnough k s → buildLeaves k s ≡ builtOver (plain k) s
+  built p l = ap (λ (o : Outcome). cond (eqb (o .number) 0) (builtOver (plain k) s) s) (kept-answer k s [] 0 p l)
 
 module _ (k : ℕ) (s : List ℕ) (p : IsPrecision k) (l : IsLongEnough k s) where
   pub built-words : (j : ℕ) → j < 2 ^ k → IsRightAt k (buildLeaves k s) j
-  built-words j h = rw (built k s p l) (image-word k j (afterImage k s) h)
+  built-words j h = rw (built k s p l) (layouts.image-word (plain k) (plain-fits k) j (drop (imageLength k) s) h)
 
   -- the image stands at the front, whatever stood there before
   pub front : take (imageLength k) (buildLeaves k s) ≡ image k
-  front = rw (built k s p l) (built-front k (p .0) s)
+  front = rw (built k s p l) (layouts.built-front (plain k) s)
 
   still-long : IsLongEnough k (buildLeaves k s)
   still-long = rw (built-as-long k s) l
 
   pub read-back : (j : ℕ) → j ≤ 2 ^ k → nodeOutcome k (buildLeaves k s) j ≡ served (node k j)
   read-back j h =
-      kept-answer k (buildLeaves k s) (nodeRefusal k j ∷ wordRefusal k (buildLeaves k s) j ∷ []) (nodeOf k (buildLeaves k s) j) p still-long
+      kept-answer k (buildLeaves k s) (nodeRefusal k j ∷ wordRefusal (plain k) (buildLeaves k s) j ∷ []) (nodeOf k (buildLeaves k s) j) p still-long
       ∙ node-served k (buildLeaves k s) j (nodeOf k (buildLeaves k s) j) h (read-right k (buildLeaves k s) j (built-words j))
       ∙ ap served (served-decodes k (buildLeaves k s) j h (built-words j))
 
@@ -79,13 +78,11 @@ module _ (k : ℕ) (s : List ℕ) (p : IsPrecision k) (l : IsLongEnough k s) whe
 
   pub built-checks : checkOutcome k (buildLeaves k s) ≡ served 0
   built-checks =
-      kept-answer k (buildLeaves k s) (imageRefusal k (buildLeaves k s) ∷ []) 0 p still-long
+      kept-answer k (buildLeaves k s) (imageRefusal (plain k) (buildLeaves k s) ∷ []) 0 p still-long
       ∙ rw
-      (le-ltb (firstWrong k (buildLeaves k s)) (2 ^ k)
-      (le-of-eq (sym (lowest-none (isWrong k (buildLeaves k s)) (2 ^ k) (λ j h. right-not-wrong k (buildLeaves k s) j (built-words j h))))))
+      (le-ltb (firstWrong (plain k) (buildLeaves k s)) (2 ^ k)
+      (le-of-eq (sym (lowest-none (isWrong (plain k) (buildLeaves k s)) (2 ^ k) (λ j h. layouts.right-not-wrong (plain k) (buildLeaves k s) j (built-words j h))))))
 
 -- bit b of word j of the image
 pub image-bits : (k j b : ℕ) → j < 2 ^ k → b < 2 * k + 2 → bitAt (image k) (j * (2 * k + 2) + b) ≡ bitOfWord (2 * k + 2) (node k j % 2 ^ (2 * k + 2)) b
-image-bits k j b h l =
-    ap (λ (t : List ℕ). bitAt t (j * (2 * k + 2) + b)) (sym (append-nil (image k)))
-    ∙ bit-of-packed (wordWidth k) (storedWord k) (wordCount k) j b [] (λ i. lit< tt) (λ i m. stored-lt k i) h l
+image-bits k = layouts.image-bit (plain k) (plain-fits k)

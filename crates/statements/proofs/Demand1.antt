@@ -1,10 +1,31 @@
--- Demand 1. "Whatever breaks a limit is turned back by the listed number and place, in the listed order (where bytes are shown, by an
--- empty part), and every lent byte is left as found. Whatever breaks none is served."
+-- Demand 1: refusals. Its clauses in our own words, each with what settles it; theorems stand on this page where no other is named.
 --
--- For each call: its number is r exactly when refusal r applies and no earlier one does, and 0 exactly when none does; a call that is
--- turned back has the value 0, and place 0 but under 6; a served one has place 0. So where two refusals apply the earlier one gives the number:
--- none of these equivalences asks that a later one does not. Nothing is assumed of k, of the buffer s, of j, n or X, but for the bytes of a word
--- that is shown. Of these calls only the builder is lent a buffer that it can write to: the others leave every byte by their types.
+-- 1. A limit that is broken turns the call back by the number that is listed for it: build-refuses-1, build-refuses-2; check-refuses-1,
+--    check-refuses-2, check-refuses-6; node-refuses-1, node-refuses-2, node-refuses-3, node-refuses-6; reciprocal-refuses-1,
+--    reciprocal-refuses-2, reciprocal-refuses-4, reciprocal-refuses-5, reciprocal-refuses-6. A call has no other numbers: build-numbers,
+--    check-numbers, node-numbers, reciprocal-numbers.
+-- 2. In the listed order: by the theorems of 1 the number is r exactly when refusal r applies and none that is listed before it. They say
+--    nothing of those listed after it, so that where two apply the earlier one gives the number.
+-- 3. At the listed place, which is 0 but under 6, and there the lowest node whose word is read and wrong: build-place, check-place,
+--    check-place-6, node-place-0, node-place-6, reciprocal-place-0, reciprocal-place-lower, reciprocal-place-upper. The value is then 0:
+--    build-value, check-value, node-refused-value, reciprocal-refused-value.
+-- 4. Where bytes are shown, there is no number, and the call is turned back by an empty part: part-empty; as place and number of bytes,
+--    part-at-front, part-none. What is shown otherwise: part-length, part-from, part-bytes.
+-- 5. Every lent byte is left as found: build-refused-leaves, and where the builder serves, all but the image's own bytes: build-leaves-rest,
+--    build-leaves-length. Of these calls the builder alone is lent a `&mut [u8]`. What is behind a `&[u8]` no call can write, by its type
+--    (docs/DECISIONS.md, "Bytes behind `&[u8]`").
+-- 6. What breaks no limit is served. The number is 0 exactly when none is broken: build-serves, check-serves, node-serves, reciprocal-serves.
+--    The place is then 0: build-place, check-place, node-place-0, reciprocal-served-place. The value is 0 of the builder and the check
+--    (build-value, check-value), the node (node-served-value) and the reciprocal (given-is-R, in Demand3).
+-- 7. The same through a bound table, whose making turns nothing back: bound-node, bound-reciprocal.
+-- 8. For all contents: k, j, n and X are any numbers, and s is any list of numbers, of any length, whether they are bytes or not. No theorem
+--    assumes more than which number was given, whether the word of node j is right (reciprocal-place-lower, reciprocal-place-upper), or
+--    whether a word is shown (part-at-front, part-length, part-from, part-bytes).
+-- 9. Whether or not the caller has looked first: no open function has a `requires`, those for C among them (tested: `contracts_stand` in
+--    tests/repository.py). What a call promises is, on all inputs, an equation with the definitions of which this page speaks: buildOutcome and
+--    buildLeaves (`building::build`), checkOutcome (`checking::check`), nodeOutcome (`reading::node`, `binding::node`), reciprocalOutcome
+--    (`inverting::reciprocal`, `binding::reciprocal`), shownPart and shownFrom (`reading::word_bytes`), shownFrom and shownCount
+--    (`reading::word_part`), bound (`binding::bind`).
 use mathlib.Core.Path.{_≡_, refl, _∙_}
 use mathlib.Core.Logic.{_↔_, _⊎_}
 use mathlib.Core.List.{List, [], _∷_}
@@ -16,8 +37,9 @@ use Rattle.precision.specs.Precision.{imageLength}
 use Rattle.precision.specs.declared.Precision.{Precision}
 use Rattle.nodes.specs.Nodes.{node}
 use Rattle.answers.proofs.Order.{isOneOf, listed, avoided, first, later, placed, value-of-0, refused-value, served-value}
-use Rattle.image.specs.Image.{nodeOf}
-use Rattle.image.specs.Refusals.{nodeRefusal, imageRefusal, wordRefusal}
+use Rattle.layout.specs.Refusals.{imageRefusal, wordRefusal}
+use Rattle.image.specs.Image.{plain, nodeOf}
+use Rattle.image.specs.Refusals.{nodeRefusal}
 use Rattle.image.specs.Calls.{buildRefusals, buildOutcome, buildLeaves, checkRefusals, checkOutcome, nodeRefusals, nodeOutcome, shownPart, shownFrom, shownCount}
 use Rattle.operand.specs.Operand.{cutOperand}
 use Rattle.interpolation.specs.Algorithm.{nodeNumber}
@@ -70,21 +92,21 @@ module _ (k : ℕ) (s : List ℕ) where
 -- The check.
 module _ (k : ℕ) (s : List ℕ) where
   pub check-refuses-1 : (checkOutcome k s .number ≡ 1) ↔ (IsPrecision k → ⊥)
-  check-refuses-1 = refuses-1 k s (imageRefusal k s ∷ []) 0 tt
+  check-refuses-1 = refuses-1 k s (imageRefusal (plain k) s ∷ []) 0 tt
 
   pub check-refuses-2 : (checkOutcome k s .number ≡ 2) ↔ (IsPrecision k × (length s < imageLength k))
-  check-refuses-2 = refuses-2 k s (imageRefusal k s ∷ []) 0 tt
+  check-refuses-2 = refuses-2 k s (imageRefusal (plain k) s ∷ []) 0 tt
 
   -- 6: a word is not the construction's
   pub check-refuses-6 : (checkOutcome k s .number ≡ 6) ↔ (IsPrecision k × IsLongEnough k s × ((j : ℕ) × (j < 2 ^ k) × (IsRightAt k s j → ⊥)))
   check-refuses-6 =
-      joined (later-number k s (imageRefusal k s ∷ []) 0 6 tt tt)
-      (joined (both same (both same (joined (first (imageRefusal k s) [] 0 tt) (some-wrong k s)))) row3)
+      joined (later-number k s (imageRefusal (plain k) s ∷ []) 0 6 tt tt)
+      (joined (both same (both same (joined (first (imageRefusal (plain k) s) [] 0 tt) (some-wrong k s)))) row3)
 
   pub check-serves : (checkOutcome k s .number ≡ 0) ↔ (IsPrecision k × IsLongEnough k s × ((j : ℕ) → j < 2 ^ k → IsRightAt k s j))
   check-serves =
-      joined (later-number k s (imageRefusal k s ∷ []) 0 0 tt tt)
-      (joined (both same (both same (joined (later 0 (imageRefusal k s) [] 0 tt) (joined alone (none-wrong k s))))) row3)
+      joined (later-number k s (imageRefusal (plain k) s ∷ []) 0 0 tt tt)
+      (joined (both same (both same (joined (later 0 (imageRefusal (plain k) s) [] 0 tt) (joined alone (none-wrong k s))))) row3)
 
   pub check-numbers : T (isOneOf (checkOutcome k s .number) (0 ∷ 1 ∷ 2 ∷ 6 ∷ []))
   check-numbers = listed (0 ∷ 1 ∷ 2 ∷ 6 ∷ []) (checkRefusals k s) 0 tt tt
@@ -102,26 +124,26 @@ module _ (k : ℕ) (s : List ℕ) where
 -- Reading a node.
 module _ (k : ℕ) (s : List ℕ) (j : ℕ) where
   pub node-refuses-1 : (nodeOutcome k s j .number ≡ 1) ↔ (IsPrecision k → ⊥)
-  node-refuses-1 = refuses-1 k s (nodeRefusal k j ∷ wordRefusal k s j ∷ []) (nodeOf k s j) tt
+  node-refuses-1 = refuses-1 k s (nodeRefusal k j ∷ wordRefusal (plain k) s j ∷ []) (nodeOf k s j) tt
 
   pub node-refuses-2 : (nodeOutcome k s j .number ≡ 2) ↔ (IsPrecision k × (length s < imageLength k))
-  node-refuses-2 = refuses-2 k s (nodeRefusal k j ∷ wordRefusal k s j ∷ []) (nodeOf k s j) tt
+  node-refuses-2 = refuses-2 k s (nodeRefusal k j ∷ wordRefusal (plain k) s j ∷ []) (nodeOf k s j) tt
 
   -- 3: the node number is above 2^k
   pub node-refuses-3 : (nodeOutcome k s j .number ≡ 3) ↔ (IsPrecision k × IsLongEnough k s × (2 ^ k < j))
   node-refuses-3 =
-      joined (later-number k s (nodeRefusal k j ∷ wordRefusal k s j ∷ []) (nodeOf k s j) 3 tt tt)
+      joined (later-number k s (nodeRefusal k j ∷ wordRefusal (plain k) s j ∷ []) (nodeOf k s j) 3 tt tt)
       (joined (both same (both same (node-number-3 k s j (nodeOf k s j)))) row3)
 
   -- 6: the word of node j is not the construction's; node 2^k, which has none, never gives it
   pub node-refuses-6 : (nodeOutcome k s j .number ≡ 6) ↔ (IsPrecision k × IsLongEnough k s × (j < 2 ^ k) × (IsRightAt k s j → ⊥))
   node-refuses-6 =
-      joined (later-number k s (nodeRefusal k j ∷ wordRefusal k s j ∷ []) (nodeOf k s j) 6 tt tt)
+      joined (later-number k s (nodeRefusal k j ∷ wordRefusal (plain k) s j ∷ []) (nodeOf k s j) 6 tt tt)
       (joined (both same (both same (node-number-6 k s j (nodeOf k s j)))) row4)
 
   pub node-serves : (nodeOutcome k s j .number ≡ 0) ↔ (IsPrecision k × IsLongEnough k s × (j ≤ 2 ^ k) × (j < 2 ^ k → IsRightAt k s j))
   node-serves =
-      joined (later-number k s (nodeRefusal k j ∷ wordRefusal k s j ∷ []) (nodeOf k s j) 0 tt tt)
+      joined (later-number k s (nodeRefusal k j ∷ wordRefusal (plain k) s j ∷ []) (nodeOf k s j) 0 tt tt)
       (joined (both same (both same (node-number-0 k s j (nodeOf k s j)))) row4)
 
   pub node-numbers : T (isOneOf (nodeOutcome k s j .number) (0 ∷ 1 ∷ 2 ∷ 3 ∷ 6 ∷ []))

@@ -1,38 +1,60 @@
--- Demand 2. "Image and reciprocal are those of Algorithms 1 and 2 of Das Sarma and Matula, with two table and three input guard bits.
--- Nodes read back from a built image are those put in; an image passes the check exactly when all its words are right."
+-- Demand 2: nodes, image and reciprocal. Its clauses in our own words, each with what settles it; theorems stand on this page where no other
+-- is named.
 --
--- For the nodes, the image and the reciprocal. Each theorem assumes no more than ranges of its numbers: that k is a precision, that n is
--- from 2k + 3 to 63, that X is normalised, that a buffer is long enough, that its elements are bytes; and, where two buffers are compared or a
--- wrong word is named, which of their words or bytes agree or are wrong.
-use mathlib.Core.Path.{_≡_, refl}
+-- 1. The nodes are those of Algorithm 1, 2^(3k+3) / i rounded up: node-reaches, node-least; their sizes and order: first-node, last-node,
+--    node-between, node-leading-one, node-step. Those of precision 8 from the constant list: node-8-listed, no-node-8.
+-- 2. With two table guard bits: a node is counted in table units, two bits finer than the ulps of R: ulp-in-table-units, one-in-both-units,
+--    first-node-is-one, exact-in-table-units.
+-- 3. The image is that of these nodes: its length image-bytes, image-whole, length-listed, no-length; its words built-word; its bits image-bit. The builder leaves it at
+--    the front of the buffer: built-front. What a word of any bytes is: word-below, word-bit; what a zero word is: zero-word-first,
+--    zero-word-wrong.
+-- 4. The reciprocal is that of Algorithm 2: step-t, step-i, step-j, step-f, step-P, step-R, with line-P and differences. The call gives it from
+--    every image that was built (built-gives), and gives no other from any image (given-is-R, in Demand3).
+-- 5. With three input guard bits: t keeps 2k + 3 fraction bits of the operand, three more than 2k (step-t); k of them go to i and k + 3 to f
+--    (step-i, step-f).
+-- 6. Nodes that are read back from a built image are those that were put in: node-read-back.
+-- 7. An image passes the check exactly when all its words are right: check-passes-words; by its bytes: check-passes-bytes. One that was built
+--    passes: built-passes.
+-- 8. For all contents: what a buffer s holds, also before it is built, is any list of numbers. Only word-bit and check-passes-bytes ask that
+--    these are bytes.
+--
+-- Each theorem assumes no more than ranges of its numbers: that k is a precision, that n is from 2k + 3 to 63, that X is normalised, that a
+-- buffer is long enough, that its elements are bytes; and, where two buffers are compared or a wrong word is named, which of their words or
+-- bytes agree or are wrong. Which words and bytes a call reads is said by what its answer depends on (docs/DECISIONS.md, "Reading").
+use mathlib.Core.Path.{_≡_, refl, _∙_}
 use mathlib.Core.Logic.{_↔_}
 use mathlib.Core.List.{List}
 use Prim.Native.Nat.{ℕ, _+_, _-_, _*_, _/_, _%_, _^_, _≤_, _<_}
 use native.Mathlib.Omega.{arith}
 use lib.ListN.{length, take, getD}
-use Rattle.precision.specs.Precision.{imageLength}
-use Rattle.units.specs.Units.{tableUnitsInOne, ulpsInOne}
+use Rattle.precision.specs.Precision.{inRange, imageLength, lengthOr0}
+use Rattle.precision.proofs.Range.{range-in}
+use Rattle.units.specs.Units.{tableUnitsInOne, ulpsInOne, tableUnitsInUlp}
 use Rattle.units.proofs.Laws.{ulp-in-units}
-use Rattle.nodes.specs.Nodes.{node}
-use Rattle.nodes.proofs.Nodes.{node-first, node-last, node-above, node-below, node-falls}
+use Rattle.nodes.specs.Nodes.{node, nodeOr0}
+use Rattle.nodes.proofs.Nodes.{node-first, node-last, node-above, node-below, node-falls, node-there, node-past}
 use Rattle.quotient.proofs.Laws.{reaches, least}
 use Rattle.packing.specs.Packing.{Bytes, bitAt, bitOfWord}
+use Rattle.packing.proofs.Words.{word-lt}
+use Rattle.packing.proofs.Bits.{bit-of-word}
 use Rattle.answers.specs.Refusal.{served}
-use Rattle.image.specs.Image.{image, wordOf}
+use Rattle.image.specs.Image.{plain, image, wordOf}
 use Rattle.image.specs.Calls.{buildLeaves, checkOutcome, nodeOutcome, shownPart, shownFrom}
-use Rattle.image.proofs.Laws.{whole-bytes, image-length, right-front, front-right}
+use Rattle.layout.proofs.Laws as layouts
+use Rattle.image.proofs.Laws.{plain-fits, eighths, whole-bytes, eighth-of-bits}
 use Rattle.operand.specs.Operand.{cutOperand}
 use Rattle.interpolation.specs.Algorithm.{index, nodeNumber, fraction, cutProductSum}
 use Rattle.interpolation.specs.Reciprocal.{reciprocal}
 use Rattle.interpolation.specs.Calls.{reciprocalOutcome}
 use Rattle.statements.specs.Terms.{IsPrecision, IsLongEnough, IsRightAt, IsFractionCount, IsNormalised}
-use Rattle.statements.proofs.Iff.{joined}
+use Rattle.statements.proofs.Iff.{joined, failed, no-precision}
 use Rattle.statements.proofs.Demand1.{check-serves}
 use Rattle.statements.proofs.Built
 use Rattle.statements.proofs.Depends
 use Rattle.statements.proofs.Nodes
 use Rattle.statements.proofs.Reciprocals
 use Rattle.statements.proofs.Sizes
+use Rattle.statements.proofs.Units
 
 -- The nodes (document 002, Algorithm 1), for every k.
 module _ (k : ℕ) where
@@ -46,6 +68,16 @@ module _ (k : ℕ) where
   -- a node is counted in table units and a reciprocal in ulps: one ulp is four table units
   pub ulp-in-table-units : tableUnitsInOne k ≡ 4 * ulpsInOne k
   ulp-in-table-units = ulp-in-units k
+
+  pub one-in-both-units : tableUnitsInOne k ≡ tableUnitsInUlp * ulpsInOne k
+  one-in-both-units = ulp-in-units k
+
+  -- node 0 is one, and 2^(3k+3) / i is the exact reciprocal of i / 2^k, which is 2^k / i, in table units
+  pub first-node-is-one : node k 0 ≡ tableUnitsInOne k
+  first-node-is-one = node-first k
+
+  pub exact-in-table-units : 2 ^ (3 * k + 3) ≡ tableUnitsInOne k * 2 ^ k
+  exact-in-table-units = Units.node-exact k
 
   -- c(0) = 2^(2k+3) and c(2^k) = 2^(2k+2)
   pub first-node : node k 0 ≡ 2 ^ (2 * k + 3)
@@ -124,10 +156,10 @@ module _ (k n X : ℕ) where
 module _ (k : ℕ) (p : IsPrecision k) where
   -- it has 2^k × (2k + 2) / 8 bytes, and these are whole
   pub image-bytes : length (image k) ≡ 2 ^ k * (2 * k + 2) / 8
-  image-bytes = image-length k (p .0)
+  image-bytes = layouts.image-length (plain k) ∙ eighth-of-bits k (p .0)
 
   pub image-whole : 8 * (2 ^ k * (2 * k + 2) / 8) ≡ 2 ^ k * (2 * k + 2)
-  image-whole = whole-bytes k (p .0)
+  image-whole = eighths k (p .0)
 
   -- the builder writes it at the front of the buffer, whatever stood there before: it reads none of it
   pub built-front : (s : List ℕ) → IsLongEnough k s → take (imageLength k) (buildLeaves k s) ≡ image k
@@ -159,7 +191,7 @@ module _ (k : ℕ) (p : IsPrecision k) where
 
   -- and exactly when its first bytes are the image
   pub check-passes-bytes : (s : List ℕ) → Bytes s → IsLongEnough k s → (checkOutcome k s .number ≡ 0) ↔ (take (imageLength k) s ≡ image k)
-  check-passes-bytes s b l = joined (check-passes-words s l) (right-front k (p .0) s b l, front-right k (p .0) s)
+  check-passes-bytes s b l = joined (check-passes-words s l) (layouts.right-front (plain k) (plain-fits k) (whole-bytes k (p .0)) s b l, layouts.front-right (plain k) (plain-fits k) s)
 
 -- What an answer depends on.
 module _ (k : ℕ) (s s' : List ℕ) (l : IsLongEnough k s) (m : IsLongEnough k s') where
@@ -190,6 +222,15 @@ module _ (k : ℕ) (s : List ℕ) (n X : ℕ) (p : IsPrecision k) (l : IsLongEno
   pub upper-word-named-at-0 : f k n X ≡ 0 → IsRightAt k s (j k n X) → j k n X + 1 < 2 ^ k → (IsRightAt k s (j k n X + 1) → ⊥) → reciprocalOutcome k s n X ≡ record { number = 6; place = j k n X + 1; value = 0 }
   upper-word-named-at-0 e = upper-word-named
 
+-- The word at j of any bytes, whoever wrote them: a number of 2k + 2 bits, and bit b of it is bit j × (2k + 2) + b of the buffer, the most
+-- significant bit of a word and of a byte being bit 0.
+module _ (k : ℕ) (s : List ℕ) (j : ℕ) where
+  pub word-below : wordOf k s j < 2 ^ (2 * k + 2)
+  word-below = word-lt (2 * k + 2) s j
+
+  pub word-bit : Bytes s → (b : ℕ) → b < 2 * k + 2 → bitOfWord (2 * k + 2) (wordOf k s j) b ≡ bitAt s (j * (2 * k + 2) + b)
+  word-bit bytes b = bit-of-word (2 * k + 2) s j b bytes
+
 -- The word of node j stands in its own bytes.
 pub word-by-its-bytes : (k : ℕ) (s s' : List ℕ) (j : ℕ) → ((i : ℕ) → j * (2 * k + 2) / 8 ≤ i → i ≤ (j * (2 * k + 2) + (2 * k + 2) - 1) / 8 → getD s i 0 ≡ getD s' i 0) → wordOf k s j ≡ wordOf k s' j
 word-by-its-bytes k s s' j = Depends.word-same k s s' j
@@ -219,3 +260,18 @@ module _ (k : ℕ) (s : List ℕ) where
 
   pub zero-word-wrong : (j : ℕ) → 0 < j → j < 2 ^ k → wordOf k s j ≡ 0 → IsRightAt k s j → ⊥
   zero-word-wrong = Nodes.zero-wrong k s
+
+-- What the calls for an image length and for a node of precision 8 give, each read from a constant list: the formula, and 0 where there is none.
+module _ (k : ℕ) where
+  pub length-listed : IsPrecision k → lengthOr0 k ≡ 2 ^ k * (2 * k + 2) / 8
+  length-listed p = rw (range-in k (p .0) (p .1)) (eighth-of-bits k (p .0))
+
+  pub no-length : (IsPrecision k → ⊥) → lengthOr0 k ≡ 0
+  no-length f = rw (failed (inRange k) (no-precision k .1 f))
+
+module _ (j : ℕ) where
+  pub node-8-listed : j ≤ 256 → nodeOr0 8 j ≡ node 8 j
+  node-8-listed = node-there 8 refl j
+
+  pub no-node-8 : 256 < j → nodeOr0 8 j ≡ 0
+  no-node-8 = node-past 8 j

@@ -1,12 +1,21 @@
--- Demand 3. "For every k from 1 to 12, n from 2k + 3 to 63 and X from 2^n to 2^(n+1) - 1, R × X differs from 2^(n+2k+1) by less than X.
--- A reciprocal that is given is this R, whatever bytes the image holds. Bits written to the right of X, up to 63 in all, change neither R nor
--- the answer: same number, place and value from the same image."
+-- Demand 3: the bound. Its clauses in our own words, each with what settles it; theorems stand on this page where no other is named.
 --
--- `reciprocal k n X` is R (Demand2 has its steps), and `reciprocalOutcome k s n X` is the answer of the call. What is said of R alone holds
--- for every k and every n from 2k + 3 on: 12 and 63 are limits of the call.
-use mathlib.Core.Path.{_≡_}
+-- 1. At every precision, for every n from 2k + 3 to 63 and every normalised X, R × X and 2^(n+2k+1) are less than X apart: bound-low,
+--    bound-high, for every k and every n from 2k + 3 on, since 12 and 63 are limits of the call alone. That is less than one ulp: ulps-low,
+--    ulps-high, with exact-in-ulps and reciprocal-of-one for what an ulp is.
+-- 2. A reciprocal that is given, which is one with the number 0, is this R: given-is-R. So the bound holds of it: given-low, given-high. When
+--    one is given: reciprocal-serves, in Demand1; from every built image: built-gives, in Demand2.
+-- 3. Whatever bytes the image holds: s is any list of numbers in given-is-R, given-low and given-high, and nothing is assumed of it.
+-- 4. Wherever the image came from: these three ask for the number 0 and for nothing else, so neither that the image was built here nor that it
+--    passed the check. A bound table takes any image too and answers as the plain call does: bound-reciprocal, in Demand1.
+-- 5. Bits that are written to the right of X do not change R: longer-reciprocal. Up to 63 in all they do not change the answer from the same
+--    image, in one equation for number, place and value: longer-answer. Both are of every X, normalised or not.
+--
+-- `reciprocal k n X` is R (Demand2 has its steps), and `reciprocalOutcome k s n X` is the answer of the call.
+use mathlib.Core.Path.{_≡_, refl}
 use mathlib.Core.List.{List}
 use Prim.Native.Nat.{ℕ, _+_, _-_, _*_, _^_, _≤_, _<_}
+use Rattle.units.specs.Units.{ulpsInOne}
 use Rattle.nodes.specs.Nodes.{node}
 use Rattle.interpolation.specs.Algorithm.{nodeNumber, fraction, cutProductSum}
 use Rattle.interpolation.specs.Reciprocal.{reciprocal}
@@ -17,6 +26,7 @@ use Rattle.statements.specs.Terms.{IsPrecision}
 use Rattle.statements.proofs.Longer
 use Rattle.statements.proofs.Reciprocals
 use Rattle.statements.proofs.Sizes
+use Rattle.statements.proofs.Units
 
 -- The bound: R × X differs from 2^(n+2k+1) by less than X.
 module _ (k n X : ℕ) (enough : 2 * k + 3 ≤ n) (least : 2 ^ n ≤ X) (below : X < 2 ^ (n + 1)) where
@@ -25,6 +35,21 @@ module _ (k n X : ℕ) (enough : 2 * k + 3 ≤ n) (least : 2 ^ n ≤ X) (below :
 
   pub bound-high : reciprocal k n X * X < 2 ^ (n + 2 * k + 1) + X
   bound-high = reciprocal-high k n X enough least below
+
+  -- in ulps: R of them differ from the exact reciprocal of X / 2^n, which is 2^n / X, by less than one; both sides are multiplied by X
+  pub ulps-low : ulpsInOne k * 2 ^ n < reciprocal k n X * X + X
+  ulps-low = rw (Units.reciprocal-exact k n) at bound-low
+
+  pub ulps-high : reciprocal k n X * X < ulpsInOne k * 2 ^ n + X
+  ulps-high = rw (Units.reciprocal-exact k n) at bound-high
+
+-- The unit: 2^(n+2k+1) / X is the exact reciprocal in ulps, and R of 2^n, which stands for one, is one in ulps.
+module _ (k n : ℕ) where
+  pub exact-in-ulps : 2 ^ (n + 2 * k + 1) ≡ ulpsInOne k * 2 ^ n
+  exact-in-ulps = Units.reciprocal-exact k n
+
+  pub reciprocal-of-one : 2 * k + 3 ≤ n → reciprocal k n (2 ^ n) ≡ ulpsInOne k
+  reciprocal-of-one enough = Reciprocals.reciprocal-of-least k n (2 ^ n) enough refl
 
 -- Given means right: nothing is assumed of the image s, nor of k, n and X, but that a reciprocal is given.
 module _ (k : ℕ) (s : List ℕ) (n X : ℕ) (given : reciprocalOutcome k s n X .number ≡ 0) where

@@ -3,7 +3,7 @@
 use mathlib.Core.Path.{_≡_, refl, sym, _∙_, ap}
 use mathlib.Core.Logic.{⊎-elim}
 use mathlib.Core.Bool.{Bool, true, false, cond, not, _&&_}
-use mathlib.Core.List.{List, [], _∷_}
+use mathlib.Core.List.{List, [], _∷_, _++_}
 use Prim.Native.Nat.{ℕ, _+_, _*_, _^_, _≤_, _<_}
 use native.Mathlib.Nat.{le-of-lt}
 use native.Mathlib.Omega.{arith}
@@ -13,19 +13,21 @@ use lib.Dec.{ltb, eqb}
 use borrow.Author.Tests.{le-ltb, eq-eqb, eqb-true, eqb-false}
 use Rattle.bools.proofs.Bools.{below-or-not}
 use Rattle.precision.specs.Precision.{inRange, imageLength, wordCount, wordWidth}
-use Rattle.nodes.specs.Nodes.{decode, isRight}
-use Rattle.packing.specs.Packing.{wordAt, firstByte, lastByte}
-use Rattle.packing.proofs.Words.{word-local, word-take, word-within, span-within}
+use Rattle.nodes.specs.Nodes.{storedWord, decode}
+use Rattle.packing.specs.Packing.{firstByte, lastByte}
+use Rattle.packing.proofs.Words.{word-local, span-within}
 use Rattle.answers.specs.Refusal.{Refusal, Outcome, outcome, turnedBack}
-use Rattle.image.specs.Image.{wordOf, isWrong, nodeOf}
-use Rattle.image.specs.Refusals.{precisionRefusal, bufferRefusal, nodeRefusal, imageRefusal, wordRefusal}
+use Rattle.layout.specs.Refusals.{imageRefusal, wordRefusal}
+use Rattle.layout.proofs.Laws.{own-word, wrong-agrees}
+use Rattle.image.specs.Image.{plain, wordOf, nodeOf}
+use Rattle.image.specs.Refusals.{precisionRefusal, nodeRefusal, limits}
 use Rattle.image.specs.Calls.{checkOutcome, nodeOutcome, shownPart, shownFrom}
-use Rattle.image.proofs.Laws.{whole-bytes, byte-count}
-use Rattle.image.proofs.Limits.{limit-none, limit-image}
-use Rattle.image.proofs.Lowest.{lowest-agrees}
+use Rattle.image.proofs.Laws.{plain-fits}
+use Rattle.image.proofs.Limits.{limit-none, limit-clear}
 use Rattle.image.proofs.Judging.{node-past}
 use Rattle.operand.specs.Operand.{cutOperand}
-use Rattle.operand.specs.Refusals.{fractionRefusal, operandRefusal, brokenOperand}
+use Rattle.operand.specs.Refusals.{fractionRefusal, operandRefusal}
+use Rattle.operand.specs.Inner.{operandNumber}
 use Rattle.operand.proofs.Limits.{operand-refuses, operand-passes, operand-kept}
 use Rattle.interpolation.specs.Algorithm.{nodeNumber}
 use Rattle.interpolation.specs.Reciprocal.{readReciprocal}
@@ -37,15 +39,15 @@ use Rattle.statements.proofs.Parts.{shown-empty, shown-length, shown-by
 -- two buffers that are long enough
 module _ (k : ℕ) (s t : List ℕ) (l : IsLongEnough k s) (m : IsLongEnough k t) where
   rest-same : (rs us : List Refusal) (v w : ℕ) → outcome rs v ≡ outcome us w
-      → outcome (precisionRefusal k ∷ bufferRefusal k s ∷ rs) v ≡ outcome (precisionRefusal k ∷ bufferRefusal k t ∷ us) w
+      → outcome (limits k (length s) ++ rs) v ≡ outcome (limits k (length t) ++ us) w
   rest-same rs us v w e =
       rw (le-ltb (length s) (imageLength k) l, le-ltb (length t) (imageLength k) m)
       (ap (λ (o : Outcome). cond (not (inRange k)) (turnedBack (precisionRefusal k)) o) e)
 
   -- at node i, up to node 2^k, all that is taken from its word
-  refusal-same : (i : ℕ) → i ≤ 2 ^ k → (i < 2 ^ k → wordOf k s i ≡ wordOf k t i) → wordRefusal k s i ≡ wordRefusal k t i
+  refusal-same : (i : ℕ) → i ≤ 2 ^ k → (i < 2 ^ k → wordOf k s i ≡ wordOf k t i) → wordRefusal (plain k) s i ≡ wordRefusal (plain k) t i
   refusal-same i h e =
-      ⊎-elim (λ b. ap (λ (x : ℕ). record { applies = ltb i (2 ^ k) && not (isRight k i x); number = 6; place = i }) (e b))
+      ⊎-elim (λ b. ap (λ (x : ℕ). record { applies = ltb i (2 ^ k) && not (eqb x (storedWord k i)); number = 6; place = i }) (e b))
       (λ n. rw (le-ltb i (2 ^ k) n)) (below-or-not i (2 ^ k))
 
   value-same : (i : ℕ) → i ≤ 2 ^ k → (i < 2 ^ k → wordOf k s i ≡ wordOf k t i) → nodeOf k s i ≡ nodeOf k t i
@@ -54,7 +56,7 @@ module _ (k : ℕ) (s t : List ℕ) (l : IsLongEnough k s) (m : IsLongEnough k t
 
   pub node-same : (j : ℕ) → (j < 2 ^ k → wordOf k s j ≡ wordOf k t j) → nodeOutcome k s j ≡ nodeOutcome k t j
   node-same j e =
-      rest-same (nodeRefusal k j ∷ wordRefusal k s j ∷ []) (nodeRefusal k j ∷ wordRefusal k t j ∷ []) (nodeOf k s j) (nodeOf k t j)
+      rest-same (nodeRefusal k j ∷ wordRefusal (plain k) s j ∷ []) (nodeRefusal k j ∷ wordRefusal (plain k) t j ∷ []) (nodeOf k s j) (nodeOf k t j)
       (⊎-elim (λ h. node-past k s j (nodeOf k s j) h ∙ sym (node-past k t j (nodeOf k t j) h))
       (λ h. let r = refusal-same j h e in let v = value-same j h e in cc) (below-or-not (2 ^ k) j))
 
@@ -72,7 +74,7 @@ module _ (k : ℕ) (s t : List ℕ) (l : IsLongEnough k s) (m : IsLongEnough k t
   pub reciprocal-same : (n X : ℕ) → (nodeNumber k (cutOperand k n X) < 2 ^ k → wordOf k s (nodeNumber k (cutOperand k n X)) ≡ wordOf k t (nodeNumber k (cutOperand k n X)))
       → (nodeNumber k (cutOperand k n X) + 1 < 2 ^ k → wordOf k s (nodeNumber k (cutOperand k n X) + 1) ≡ wordOf k t (nodeNumber k (cutOperand k n X) + 1))
       → reciprocalOutcome k s n X ≡ reciprocalOutcome k t n X
-  reciprocal-same n X e d = rest-same (limits s) (limits t) (value s) (value t) (by (eqb (brokenOperand k n X) 0) refl)
+  reciprocal-same n X e d = rest-same (limits s) (limits t) (value s) (value t) (by (eqb (operandNumber k n X) 0) refl)
     where
       words : List ℕ → List Refusal
       words u = cutRefusals k u (cutOperand k n X)
@@ -83,21 +85,21 @@ module _ (k : ℕ) (s t : List ℕ) (l : IsLongEnough k s) (m : IsLongEnough k t
       value : List ℕ → ℕ
       value u = readReciprocal k u (cutOperand k n X)
 
-      by : (b : Bool) → eqb (brokenOperand k n X) 0 ≡ b → outcome (limits s) (value s) ≡ outcome (limits t) (value t)
+      by : (b : Bool) → eqb (operandNumber k n X) 0 ≡ b → outcome (limits s) (value s) ≡ outcome (limits t) (value t)
       by true z =
-          let none = eqb-true (brokenOperand k n X) 0 z in
+          let none = eqb-true (operandNumber k n X) 0 z in
           let o = operand-kept k n X none in
           let h = has-word k n X (o .enough) (o .least, o .below) in
           operand-passes k n X (words s) (value s) none
           ∙ cut-same (cutOperand k n X) h (e h) d
           ∙ sym (operand-passes k n X (words t) (value t) none)
-      by false z = operand-refuses k n X (words s) (value s) (eqb-false (brokenOperand k n X) 0 z) ∙ sym (operand-refuses k n X (words t) (value t) (eqb-false (brokenOperand k n X) 0 z))
+      by false z = operand-refuses k n X (words s) (value s) (eqb-false (operandNumber k n X) 0 z) ∙ sym (operand-refuses k n X (words t) (value t) (eqb-false (operandNumber k n X) 0 z))
 
   pub check-same : ((j : ℕ) → j < 2 ^ k → wordOf k s j ≡ wordOf k t j) → checkOutcome k s ≡ checkOutcome k t
   check-same e =
-      rest-same (imageRefusal k s ∷ []) (imageRefusal k t ∷ []) 0 0
+      rest-same (imageRefusal (plain k) s ∷ []) (imageRefusal (plain k) t ∷ []) 0 0
       (ap (λ (f : ℕ). outcome (record { applies = ltb f (wordCount k); number = 6; place = f } ∷ []) 0)
-      (lowest-agrees (isWrong k s) (isWrong k t) (wordCount k) (λ j h. ap (λ (x : ℕ). not (isRight k j x)) (e j h))))
+      (wrong-agrees (plain k) s t e))
 
 -- a word by its bytes
 pub word-same : (k : ℕ) (s t : List ℕ) (j : ℕ) → ((i : ℕ) → firstByte (wordWidth k) j ≤ i → i ≤ lastByte (wordWidth k) j → getD s i 0 ≡ getD t i 0) → wordOf k s j ≡ wordOf k t j
@@ -107,10 +109,7 @@ word-same k s t j = word-local (wordWidth k) s t j (omega arith)
 module _ (k : ℕ) (s t : List ℕ) (p : IsPrecision k) (l : IsLongEnough k s) (m : IsLongEnough k t) (e : take (imageLength k) s ≡ take (imageLength k) t) where
   front-word : (j : ℕ) → j < 2 ^ k → wordOf k s j ≡ wordOf k t j
   front-word j h =
-      let there : j * wordWidth k + wordWidth k ≤ 8 * imageLength k = omega (arith, word-within (wordWidth k) (wordCount k) j h, whole-bytes k (p .0)) in
-      sym (word-take (wordWidth k) (imageLength k) s j (omega arith) there)
-      ∙ ap (λ (u : List ℕ). wordAt (wordWidth k) u j) e
-      ∙ word-take (wordWidth k) (imageLength k) t j (omega arith) there
+      sym (own-word (plain k) (plain-fits k) s j h) ∙ ap (λ (u : List ℕ). wordOf k u j) e ∙ own-word (plain k) (plain-fits k) t j h
 
   pub front-node : (j : ℕ) → nodeOutcome k s j ≡ nodeOutcome k t j
   front-node j = node-same k s t l m j (front-word j)
@@ -134,12 +133,12 @@ module _ (k : ℕ) (s t : List ℕ) (p : IsPrecision k) (l : IsLongEnough k s) (
       (λ i q.
       shown-bytes k s j p l h i q
       ∙ front-byte (firstByte (wordWidth k) j + i)
-      (omega (arith, q, long, span-within (wordWidth k) (wordCount k) j (omega arith) h, byte-count k (p .0)))
+      (omega (arith, q, long, span-within (wordWidth k) (wordCount k) j (omega arith) h))
       ∙ sym (shown-bytes k t j p m h i (omega (arith, q, same))))
 
   -- and they stand at the same place
   pub front-place : (j : ℕ) → shownFrom k s j ≡ shownFrom k t j
-  front-place j = rw (limit-image k s (limit-none k s (p .0) (p .1) l), limit-image k t (limit-none k t (p .0) (p .1) m))
+  front-place j = rw (limit-clear k s (limit-none k s (p .0) (p .1) l), limit-clear k t (limit-none k t (p .0) (p .1) m))
 
   pub front-part : (j : ℕ) → shownPart k s j ≡ shownPart k t j
   front-part j =

@@ -4,7 +4,7 @@
 use mathlib.Core.Path.{refl}
 use Rattle.quotient.specs.Quotient.{roundedUp}
 use Rattle.packing.specs.Packing.{wordAt, fieldAt}
-use Rattle.image.specs.Lowest.{lowest}
+use Rattle.bools.specs.Lowest.{lowest}
 use Rattle.decimal.specs.Decimal.{digits, decimal}
 use Rattle.table_text.specs.TableText.{precisionOf, field, line, lines, header, tableOf, tableText}
 use Rattle.statements.specs.Examples.{imageExamples, ImageHolds, reciprocalExamples, ReciprocalHolds, textExamples, TextHolds, Each, ExamplesHold}

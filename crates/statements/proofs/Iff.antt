@@ -12,9 +12,10 @@ use borrow.Author.Tests.{lt-ltb}
 use Rattle.bools.proofs.Bools.{clash}
 use Rattle.precision.specs.Precision.{inRange, wordCount}
 use Rattle.precision.proofs.Range.{in-range, range-in}
-use Rattle.image.specs.Image.{isWrong, firstWrong}
-use Rattle.image.proofs.Laws.{not-wrong, right-not-wrong}
-use Rattle.image.proofs.Lowest.{lowest-passes, lowest-before, lowest-none}
+use Rattle.layout.specs.Layout.{isWrong, firstWrong}
+use Rattle.layout.proofs.Laws.{not-wrong, right-not-wrong}
+use Rattle.image.specs.Image.{plain}
+use Rattle.bools.proofs.Lowest.{lowest-passes, lowest-before, lowest-none}
 use Rattle.operand.specs.Operand.{isFractionCount, isNormalised}
 use Rattle.operand.proofs.Laws.{count-in, in-count, normalised-in, in-normalised}
 use Rattle.statements.specs.Terms.{IsPrecision, IsRightAt, IsFractionCount, IsNormalised}
@@ -98,66 +99,66 @@ pub not-below : (a b : ℕ) → T (not (ltb a b)) ↔ (b ≤ a)
 not-below a b = (nltb→le a b, le→nltb a b)
 
 -- the word of node j is read and is wrong
-pub wrong-word : (k : ℕ) (s : List ℕ) (j : ℕ) → T (ltb j (2 ^ k) && isWrong k s j) ↔ ((j < 2 ^ k) × (IsRightAt k s j → ⊥))
-wrong-word k s j = (to (ltb j (2 ^ k)) (isWrong k s j) refl refl, from)
+pub wrong-word : (k : ℕ) (s : List ℕ) (j : ℕ) → T (ltb j (2 ^ k) && isWrong (plain k) s j) ↔ ((j < 2 ^ k) × (IsRightAt k s j → ⊥))
+wrong-word k s j = (to (ltb j (2 ^ k)) (isWrong (plain k) s j) refl refl, from)
   where
-    to : (a b : Bool) → ltb j (2 ^ k) ≡ a → isWrong k s j ≡ b → T (a && b) → (j < 2 ^ k) × (IsRightAt k s j → ⊥)
-    to true true e d t = (ltb→lt j (2 ^ k) (passes (ltb j (2 ^ k)) e), λ r. clash d (right-not-wrong k s j r))
+    to : (a b : Bool) → ltb j (2 ^ k) ≡ a → isWrong (plain k) s j ≡ b → T (a && b) → (j < 2 ^ k) × (IsRightAt k s j → ⊥)
+    to true true e d t = (ltb→lt j (2 ^ k) (passes (ltb j (2 ^ k)) e), λ r. clash d (right-not-wrong (plain k) s j r))
     to true false e d t = absurd t
     to false b e d t = absurd t
 
-    by : (b : Bool) → isWrong k s j ≡ b → (IsRightAt k s j → ⊥) → T b
+    by : (b : Bool) → isWrong (plain k) s j ≡ b → (IsRightAt k s j → ⊥) → T b
     by true e f = tt
-    by false e f = f (not-wrong k s j e)
+    by false e f = f (not-wrong (plain k) s j e)
 
-    from : (j < 2 ^ k) × (IsRightAt k s j → ⊥) → T (ltb j (2 ^ k) && isWrong k s j)
-    from t = rw (lt-ltb j (2 ^ k) (t .0)) (by (isWrong k s j) refl (t .1))
+    from : (j < 2 ^ k) × (IsRightAt k s j → ⊥) → T (ltb j (2 ^ k) && isWrong (plain k) s j)
+    from t = rw (lt-ltb j (2 ^ k) (t .0)) (by (isWrong (plain k) s j) refl (t .1))
 
-pub no-wrong-word : (k : ℕ) (s : List ℕ) (j : ℕ) → T (not (ltb j (2 ^ k) && isWrong k s j)) ↔ (j < 2 ^ k → IsRightAt k s j)
+pub no-wrong-word : (k : ℕ) (s : List ℕ) (j : ℕ) → T (not (ltb j (2 ^ k) && isWrong (plain k) s j)) ↔ (j < 2 ^ k → IsRightAt k s j)
 no-wrong-word k s j = (to, from)
   where
-    by : (b : Bool) → isWrong k s j ≡ b → T (not b) → IsRightAt k s j
+    by : (b : Bool) → isWrong (plain k) s j ≡ b → T (not b) → IsRightAt k s j
     by true e t = absurd t
-    by false e t = not-wrong k s j e
+    by false e t = not-wrong (plain k) s j e
 
-    to : T (not (ltb j (2 ^ k) && isWrong k s j)) → j < 2 ^ k → IsRightAt k s j
-    to t h = by (isWrong k s j) refl (rw (lt-ltb j (2 ^ k) h) at t)
+    to : T (not (ltb j (2 ^ k) && isWrong (plain k) s j)) → j < 2 ^ k → IsRightAt k s j
+    to t h = by (isWrong (plain k) s j) refl (rw (lt-ltb j (2 ^ k) h) at t)
 
-    from : (j < 2 ^ k → IsRightAt k s j) → T (not (ltb j (2 ^ k) && isWrong k s j))
-    from f = not-T (ltb j (2 ^ k) && isWrong k s j) (λ t. let w = wrong-word k s j .0 t in w .1 (f (w .0)))
+    from : (j < 2 ^ k → IsRightAt k s j) → T (not (ltb j (2 ^ k) && isWrong (plain k) s j))
+    from f = not-T (ltb j (2 ^ k) && isWrong (plain k) s j) (λ t. let w = wrong-word k s j .0 t in w .1 (f (w .0)))
 
 -- the same as equations
-pub read-wrong : (k : ℕ) (s : List ℕ) (j : ℕ) → j < 2 ^ k → (IsRightAt k s j → ⊥) → (ltb j (2 ^ k) && isWrong k s j) ≡ true
-read-wrong k s j h f = passed (ltb j (2 ^ k) && isWrong k s j) (wrong-word k s j .1 (h, f))
+pub read-wrong : (k : ℕ) (s : List ℕ) (j : ℕ) → j < 2 ^ k → (IsRightAt k s j → ⊥) → (ltb j (2 ^ k) && isWrong (plain k) s j) ≡ true
+read-wrong k s j h f = passed (ltb j (2 ^ k) && isWrong (plain k) s j) (wrong-word k s j .1 (h, f))
 
-pub read-right : (k : ℕ) (s : List ℕ) (j : ℕ) → (j < 2 ^ k → IsRightAt k s j) → (ltb j (2 ^ k) && isWrong k s j) ≡ false
-read-right k s j f = failed (ltb j (2 ^ k) && isWrong k s j) (no-wrong-word k s j .1 f)
+pub read-right : (k : ℕ) (s : List ℕ) (j : ℕ) → (j < 2 ^ k → IsRightAt k s j) → (ltb j (2 ^ k) && isWrong (plain k) s j) ≡ false
+read-right k s j f = failed (ltb j (2 ^ k) && isWrong (plain k) s j) (no-wrong-word k s j .1 f)
 
 -- some word of the image is wrong, and none is
-pub some-wrong : (k : ℕ) (s : List ℕ) → T (ltb (firstWrong k s) (wordCount k)) ↔ ((j : ℕ) × (j < 2 ^ k) × (IsRightAt k s j → ⊥))
+pub some-wrong : (k : ℕ) (s : List ℕ) → T (ltb (firstWrong (plain k) s) (wordCount k)) ↔ ((j : ℕ) × (j < 2 ^ k) × (IsRightAt k s j → ⊥))
 some-wrong k s = (to, from)
   where
-    to : T (ltb (firstWrong k s) (wordCount k)) → (j : ℕ) × (j < 2 ^ k) × (IsRightAt k s j → ⊥)
+    to : T (ltb (firstWrong (plain k) s) (wordCount k)) → (j : ℕ) × (j < 2 ^ k) × (IsRightAt k s j → ⊥)
     to t =
-        let h = ltb→lt (firstWrong k s) (wordCount k) t in
-        (firstWrong k s, h, λ r. clash (lowest-passes (isWrong k s) (wordCount k) h) (right-not-wrong k s (firstWrong k s) r))
+        let h = ltb→lt (firstWrong (plain k) s) (wordCount k) t in
+        (firstWrong (plain k) s, h, λ r. clash (lowest-passes (isWrong (plain k) s) (wordCount k) h) (right-not-wrong (plain k) s (firstWrong (plain k) s) r))
 
-    from : (j : ℕ) × (j < 2 ^ k) × (IsRightAt k s j → ⊥) → T (ltb (firstWrong k s) (wordCount k))
+    from : (j : ℕ) × (j < 2 ^ k) × (IsRightAt k s j → ⊥) → T (ltb (firstWrong (plain k) s) (wordCount k))
     from w =
-        not-not (ltb (firstWrong k s) (wordCount k))
-        (λ t. w .2 (not-wrong k s (w .0) (lowest-before (isWrong k s) (wordCount k) (w .0) (omega (arith, w .1, nltb→le (firstWrong k s) (wordCount k) t)))))
+        not-not (ltb (firstWrong (plain k) s) (wordCount k))
+        (λ t. w .2 (not-wrong (plain k) s (w .0) (lowest-before (isWrong (plain k) s) (wordCount k) (w .0) (omega (arith, w .1, nltb→le (firstWrong (plain k) s) (wordCount k) t)))))
       where
         not-not : (b : Bool) → (T (not b) → ⊥) → T b
         not-not true f = tt
         not-not false f = absurd (f tt)
 
-pub none-wrong : (k : ℕ) (s : List ℕ) → T (not (ltb (firstWrong k s) (wordCount k))) ↔ ((j : ℕ) → j < 2 ^ k → IsRightAt k s j)
+pub none-wrong : (k : ℕ) (s : List ℕ) → T (not (ltb (firstWrong (plain k) s) (wordCount k))) ↔ ((j : ℕ) → j < 2 ^ k → IsRightAt k s j)
 none-wrong k s = (to, from)
   where
-    to : T (not (ltb (firstWrong k s) (wordCount k))) → (j : ℕ) → j < 2 ^ k → IsRightAt k s j
-    to t j h = not-wrong k s j (lowest-before (isWrong k s) (wordCount k) j (omega (arith, h, nltb→le (firstWrong k s) (wordCount k) t)))
+    to : T (not (ltb (firstWrong (plain k) s) (wordCount k))) → (j : ℕ) → j < 2 ^ k → IsRightAt k s j
+    to t j h = not-wrong (plain k) s j (lowest-before (isWrong (plain k) s) (wordCount k) j (omega (arith, h, nltb→le (firstWrong (plain k) s) (wordCount k) t)))
 
-    from : ((j : ℕ) → j < 2 ^ k → IsRightAt k s j) → T (not (ltb (firstWrong k s) (wordCount k)))
+    from : ((j : ℕ) → j < 2 ^ k → IsRightAt k s j) → T (not (ltb (firstWrong (plain k) s) (wordCount k)))
     from f =
-        le→nltb (firstWrong k s) (wordCount k)
-        (omega (arith, lowest-none (isWrong k s) (wordCount k) (λ j h. right-not-wrong k s j (f j h))))
+        le→nltb (firstWrong (plain k) s) (wordCount k)
+        (omega (arith, lowest-none (isWrong (plain k) s) (wordCount k) (λ j h. right-not-wrong (plain k) s j (f j h))))

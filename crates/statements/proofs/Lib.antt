@@ -8,6 +8,7 @@ pub mod Numbers
 pub mod Reciprocals
 pub mod Longer
 pub mod Sizes
+pub mod Units
 pub mod Nodes
 pub mod Built
 pub mod Depends

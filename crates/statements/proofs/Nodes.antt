@@ -10,8 +10,9 @@ use lib.Pow.{pow-pos}
 use Rattle.nodes.specs.Nodes.{node}
 use Rattle.nodes.proofs.Nodes.{node-first, node-above, node-below, node-last, node-ordered, lead-double, stored-word-first, stored-word-between}
 use Rattle.answers.specs.Refusal.{Outcome, served}
-use Rattle.image.specs.Image.{wordOf, nodeOf}
-use Rattle.image.specs.Refusals.{nodeRefusal, wordRefusal}
+use Rattle.layout.specs.Refusals.{wordRefusal}
+use Rattle.image.specs.Image.{plain, wordOf, nodeOf}
+use Rattle.image.specs.Refusals.{nodeRefusal}
 use Rattle.image.specs.Calls.{nodeOutcome}
 use Rattle.image.proofs.Judging.{right-node, node-served}
 use Rattle.statements.specs.Terms.{IsPrecision, IsLongEnough, IsRightAt}
@@ -45,9 +46,9 @@ zero-node k s p l = (to, from)
     to : wordOf k s 0 ≡ 0 → nodeOutcome k s 0 ≡ served (2 ^ (2 * k + 3))
     to e =
         let right = zero-right k s e in
-        kept-answer k s (nodeRefusal k 0 ∷ wordRefusal k s 0 ∷ []) (nodeOf k s 0) p l
+        kept-answer k s (nodeRefusal k 0 ∷ wordRefusal (plain k) s 0 ∷ []) (nodeOf k s 0) p l
         ∙ node-served k s 0 (nodeOf k s 0) (omega arith) (read-right k s 0 (λ h. right))
         ∙ ap served (served-decodes k s 0 (omega arith) (λ h. right) ∙ node-first k)
 
     from : nodeOutcome k s 0 ≡ served (2 ^ (2 * k + 3)) → wordOf k s 0 ≡ 0
-    from e = node-number-0 k s 0 (nodeOf k s 0) .0 (later-number k s (nodeRefusal k 0 ∷ wordRefusal k s 0 ∷ []) (nodeOf k s 0) 0 tt tt .0 (ap (λ (o : Outcome). o .number) e) .1 .1) .1 (pow-pos k) ∙ stored-word-first k
+    from e = node-number-0 k s 0 (nodeOf k s 0) .0 (later-number k s (nodeRefusal k 0 ∷ wordRefusal (plain k) s 0 ∷ []) (nodeOf k s 0) 0 tt tt .0 (ap (λ (o : Outcome). o .number) e) .1 .1) .1 (pow-pos k) ∙ stored-word-first k

@@ -4,7 +4,7 @@
 use mathlib.Core.Path.{_≡_, refl, sym, _∙_, ap}
 use mathlib.Core.Logic.{_↔_}
 use mathlib.Core.Bool.{true, false, not, true≢false}
-use mathlib.Core.List.{List, [], _∷_}
+use mathlib.Core.List.{List, [], _∷_, _++_}
 use Prim.Native.Nat.{ℕ, _^_, _≤_, _<_}
 use native.Mathlib.Nat.{le-of-lt}
 use lib.ListN.{length}
@@ -13,12 +13,14 @@ use borrow.Author.Tests.{lt-ltb}
 use Rattle.precision.specs.Precision.{imageLength, wordCount}
 use Rattle.answers.specs.Refusal.{Refusal, Outcome, outcome}
 use Rattle.answers.proofs.Order.{avoids, first, later}
-use Rattle.image.specs.Image.{isWrong, firstWrong}
-use Rattle.image.specs.Refusals.{precisionRefusal, bufferRefusal, nodeRefusal, imageRefusal, wordRefusal}
+use Rattle.layout.specs.Layout.{isWrong, firstWrong}
+use Rattle.layout.specs.Refusals.{lengthRefusal, imageRefusal, wordRefusal}
+use Rattle.layout.proofs.Laws.{not-wrong, right-not-wrong}
+use Rattle.image.specs.Image.{plain}
+use Rattle.image.specs.Refusals.{precisionRefusal, nodeRefusal, limits}
 use Rattle.image.specs.Calls.{checkOutcome, nodeRefusals}
-use Rattle.image.proofs.Laws.{not-wrong, right-not-wrong}
 use Rattle.image.proofs.Limits.{limit-none, limit-passes}
-use Rattle.image.proofs.Lowest.{lowest-passes, lowest-before}
+use Rattle.bools.proofs.Lowest.{lowest-passes, lowest-before}
 use Rattle.image.proofs.Judging.{node-refused}
 use Rattle.statements.specs.Terms.{IsPrecision, IsLongEnough, IsRightAt}
 use Rattle.statements.proofs.Iff.{joined, both, is-precision, no-precision, is-below, not-below, wrong-word, no-wrong-word, read-wrong, some-wrong}
@@ -30,20 +32,20 @@ alone = (λ t. t .0, λ t. (t, refl))
 -- the limits in front of any list of refusals
 module _ (k : ℕ) (s : List ℕ) (rs : List Refusal) (v : ℕ) where
   abbrev behind : Outcome
-  behind = outcome (precisionRefusal k ∷ bufferRefusal k s ∷ rs) v
+  behind = outcome (limits k (length s) ++ rs) v
 
-  pub refuses-1 : T (avoids 1 (bufferRefusal k s ∷ rs)) → (behind .number ≡ 1) ↔ (IsPrecision k → ⊥)
-  refuses-1 t = joined (first (precisionRefusal k) (bufferRefusal k s ∷ rs) v t) (no-precision k)
+  pub refuses-1 : T (avoids 1 (lengthRefusal (plain k) (length s) ∷ rs)) → (behind .number ≡ 1) ↔ (IsPrecision k → ⊥)
+  refuses-1 t = joined (first (precisionRefusal k) (lengthRefusal (plain k) (length s) ∷ rs) v t) (no-precision k)
 
   pub refuses-2 : T (avoids 2 rs) → (behind .number ≡ 2) ↔ (IsPrecision k × (length s < imageLength k))
   refuses-2 t =
-      joined (later 2 (precisionRefusal k) (bufferRefusal k s ∷ rs) v tt)
-      (both (is-precision k) (joined (first (bufferRefusal k s) rs v t) (is-below (length s) (imageLength k))))
+      joined (later 2 (precisionRefusal k) (lengthRefusal (plain k) (length s) ∷ rs) v tt)
+      (both (is-precision k) (joined (first (lengthRefusal (plain k) (length s)) rs v t) (is-below (length s) (imageLength k))))
 
   pub later-number : (n : ℕ) → T (not (eqb 1 n)) → T (not (eqb 2 n)) → (behind .number ≡ n) ↔ (IsPrecision k × (IsLongEnough k s × (outcome rs v .number ≡ n)))
   later-number n a b =
-      joined (later n (precisionRefusal k) (bufferRefusal k s ∷ rs) v a)
-      (both (is-precision k) (joined (later n (bufferRefusal k s) rs v b) (both (not-below (length s) (imageLength k)) ((λ e. e), (λ e. e)))))
+      joined (later n (precisionRefusal k) (lengthRefusal (plain k) (length s) ∷ rs) v a)
+      (both (is-precision k) (joined (later n (lengthRefusal (plain k) (length s)) rs v b) (both (not-below (length s) (imageLength k)) ((λ e. e), (λ e. e)))))
 
   -- with both limits kept the answer is that of the rest
   pub kept-answer : IsPrecision k → IsLongEnough k s → behind ≡ outcome rs v
@@ -52,38 +54,38 @@ module _ (k : ℕ) (s : List ℕ) (rs : List Refusal) (v : ℕ) where
 -- the check where a word is wrong
 module _ (k : ℕ) (s : List ℕ) where
   -- the check's whole answer where a word is wrong
-  wrong-answer : IsPrecision k → IsLongEnough k s → firstWrong k s < 2 ^ k → checkOutcome k s ≡ record { number = 6; place = firstWrong k s; value = 0 }
-  wrong-answer p l h = kept-answer k s (imageRefusal k s ∷ []) 0 p l ∙ rw (lt-ltb (firstWrong k s) (2 ^ k) h)
+  wrong-answer : IsPrecision k → IsLongEnough k s → firstWrong (plain k) s < 2 ^ k → checkOutcome k s ≡ record { number = 6; place = firstWrong (plain k) s; value = 0 }
+  wrong-answer p l h = kept-answer k s (imageRefusal (plain k) s ∷ []) 0 p l ∙ rw (lt-ltb (firstWrong (plain k) s) (2 ^ k) h)
 
   pub first-wrong : IsPrecision k → IsLongEnough k s → (j : ℕ) → j < 2 ^ k → (IsRightAt k s j → ⊥)
       → (checkOutcome k s .place < 2 ^ k) × (IsRightAt k s (checkOutcome k s .place) → ⊥) × ((i : ℕ) → i < checkOutcome k s .place → IsRightAt k s i)
   first-wrong p l j h f =
-      let t = is-below (firstWrong k s) (2 ^ k) .0 (some-wrong k s .1 (j, h, f)) in
+      let t = is-below (firstWrong (plain k) s) (2 ^ k) .0 (some-wrong k s .1 (j, h, f)) in
       rw (ap (λ (o : Outcome). o .place) (wrong-answer p l t))
-      (t, λ r. some-wrong-clash t r, λ i m. not-wrong k s i (lowest-before (isWrong k s) (wordCount k) i m))
+      (t, λ r. some-wrong-clash t r, λ i m. not-wrong (plain k) s i (lowest-before (isWrong (plain k) s) (wordCount k) i m))
     where
-      some-wrong-clash : firstWrong k s < 2 ^ k → IsRightAt k s (firstWrong k s) → ⊥
-      some-wrong-clash t r = true≢false (sym (lowest-passes (isWrong k s) (wordCount k) t) ∙ right-not-wrong k s (firstWrong k s) r)
+      some-wrong-clash : firstWrong (plain k) s < 2 ^ k → IsRightAt k s (firstWrong (plain k) s) → ⊥
+      some-wrong-clash t r = true≢false (sym (lowest-passes (isWrong (plain k) s) (wordCount k) t) ∙ right-not-wrong (plain k) s (firstWrong (plain k) s) r)
 
 module _ (k : ℕ) (s : List ℕ) (j v : ℕ) where
   -- the two last refusals of reading a node
-  pub node-number-3 : (outcome (nodeRefusal k j ∷ wordRefusal k s j ∷ []) v .number ≡ 3) ↔ (2 ^ k < j)
-  node-number-3 = joined (first (nodeRefusal k j) (wordRefusal k s j ∷ []) v tt) (is-below (2 ^ k) j)
+  pub node-number-3 : (outcome (nodeRefusal k j ∷ wordRefusal (plain k) s j ∷ []) v .number ≡ 3) ↔ (2 ^ k < j)
+  node-number-3 = joined (first (nodeRefusal k j) (wordRefusal (plain k) s j ∷ []) v tt) (is-below (2 ^ k) j)
 
-  pub node-number-6 : (outcome (nodeRefusal k j ∷ wordRefusal k s j ∷ []) v .number ≡ 6) ↔ ((j < 2 ^ k) × (IsRightAt k s j → ⊥))
+  pub node-number-6 : (outcome (nodeRefusal k j ∷ wordRefusal (plain k) s j ∷ []) v .number ≡ 6) ↔ ((j < 2 ^ k) × (IsRightAt k s j → ⊥))
   node-number-6 =
-      joined (later 6 (nodeRefusal k j) (wordRefusal k s j ∷ []) v tt)
-      (joined (both (not-below (2 ^ k) j) (joined (first (wordRefusal k s j) [] v tt) (wrong-word k s j)))
+      joined (later 6 (nodeRefusal k j) (wordRefusal (plain k) s j ∷ []) v tt)
+      (joined (both (not-below (2 ^ k) j) (joined (first (wordRefusal (plain k) s j) [] v tt) (wrong-word k s j)))
       (λ t. t .1, λ t. (le-of-lt (t .0), t)))
 
-  pub node-number-0 : (outcome (nodeRefusal k j ∷ wordRefusal k s j ∷ []) v .number ≡ 0) ↔ ((j ≤ 2 ^ k) × (j < 2 ^ k → IsRightAt k s j))
+  pub node-number-0 : (outcome (nodeRefusal k j ∷ wordRefusal (plain k) s j ∷ []) v .number ≡ 0) ↔ ((j ≤ 2 ^ k) × (j < 2 ^ k → IsRightAt k s j))
   node-number-0 =
-      joined (later 0 (nodeRefusal k j) (wordRefusal k s j ∷ []) v tt)
-      (both (not-below (2 ^ k) j) (joined (later 0 (wordRefusal k s j) [] v tt) (joined alone (no-wrong-word k s j))))
+      joined (later 0 (nodeRefusal k j) (wordRefusal (plain k) s j ∷ []) v tt)
+      (both (not-below (2 ^ k) j) (joined (later 0 (wordRefusal (plain k) s j) [] v tt) (joined alone (no-wrong-word k s j))))
 
   -- its place under 6
   pub node-place : IsPrecision k → IsLongEnough k s → j < 2 ^ k → (IsRightAt k s j → ⊥) → outcome (nodeRefusals k s j) v .place ≡ j
   node-place p l h f =
       ap (λ (o : Outcome). o .place)
-      (kept-answer k s (nodeRefusal k j ∷ wordRefusal k s j ∷ []) v p l
+      (kept-answer k s (nodeRefusal k j ∷ wordRefusal (plain k) s j ∷ []) v p l
       ∙ node-refused k s j v (le-of-lt h) (read-wrong k s j h f))

@@ -14,9 +14,12 @@ use borrow.Author.Tests.{ltb-true}
 use Rattle.precision.specs.Precision.{wordWidth}
 use Rattle.packing.specs.Packing.{firstByte, lastByte, spanBytes}
 use Rattle.packing.proofs.Words.{span-ordered}
-use Rattle.image.specs.Image.{wordPart}
-use Rattle.image.specs.Calls.{noImage, shownPart, shownFrom, shownCount}
-use Rattle.image.proofs.Limits.{ImageKept, limit-none, limit-kept, image-limit}
+use Rattle.answers.specs.Refusal.{someApplies}
+use Rattle.layout.specs.Layout.{partOf}
+use Rattle.image.specs.Image.{plain}
+use Rattle.image.specs.Refusals.{limits}
+use Rattle.image.specs.Calls.{shownPart, shownFrom, shownCount}
+use Rattle.image.proofs.Limits.{ImageKept, limit-none, limit-kept, clear-kept}
 use Rattle.image.proofs.Shown.{shown-part, shown-from, shown-count}
 use Rattle.statements.specs.Terms.{IsPrecision, IsLongEnough}
 
@@ -38,17 +41,17 @@ module _ (k : ℕ) (s : List ℕ) (j : ℕ) where
       ∙ getD-drop (firstByte (wordWidth k) j) s i 0
 
   pub shown-empty : (shownPart k s j ≡ []) ↔ ((IsPrecision k × IsLongEnough k s × (j < 2 ^ k)) → ⊥)
-  shown-empty = (to, from (noImage k s) (ltb j (2 ^ k)) refl refl)
+  shown-empty = (to, from (someApplies (limits k (length s))) (ltb j (2 ^ k)) refl refl)
     where
       to : shownPart k s j ≡ [] → (IsPrecision k × IsLongEnough k s × (j < 2 ^ k)) → ⊥
       to e t =
           omega (arith, ap length e, shown-length (t .0) (t .1) (t .2), span-ordered (wordWidth k) j (omega arith))
 
-      from : (a b : Bool) → noImage k s ≡ a → ltb j (2 ^ k) ≡ b → ((IsPrecision k × IsLongEnough k s × (j < 2 ^ k)) → ⊥) → cond (a || not b) [] (wordPart k s j) ≡ []
+      from : (a b : Bool) → someApplies (limits k (length s)) ≡ a → ltb j (2 ^ k) ≡ b → ((IsPrecision k × IsLongEnough k s × (j < 2 ^ k)) → ⊥) → cond (a || not b) [] (partOf (plain k) s j) ≡ []
       from true b e d f = refl
       from false false e d f = refl
       from false true e d f =
-          let ok = limit-kept k s (image-limit k s e) in
+          let ok = clear-kept k s e in
           absurd (f ((ok .low, ok .high), ok .long, ltb-true j (2 ^ k) d))
 
   -- the same by how many bytes there are, and where
@@ -61,11 +64,11 @@ module _ (k : ℕ) (s : List ℕ) (j : ℕ) where
       nothing (x ∷ l) e = absurd (suc-ne-zero (length l) e)
 
   pub hidden-at-front : ((IsPrecision k × IsLongEnough k s × (j < 2 ^ k)) → ⊥) → shownFrom k s j ≡ 0
-  hidden-at-front = from (noImage k s) (ltb j (2 ^ k)) refl refl
+  hidden-at-front = from (someApplies (limits k (length s))) (ltb j (2 ^ k)) refl refl
     where
-      from : (a b : Bool) → noImage k s ≡ a → ltb j (2 ^ k) ≡ b → ((IsPrecision k × IsLongEnough k s × (j < 2 ^ k)) → ⊥) → cond (a || not b) 0 (firstByte (wordWidth k) j) ≡ 0
+      from : (a b : Bool) → someApplies (limits k (length s)) ≡ a → ltb j (2 ^ k) ≡ b → ((IsPrecision k × IsLongEnough k s × (j < 2 ^ k)) → ⊥) → cond (a || not b) 0 (firstByte (wordWidth k) j) ≡ 0
       from true b e d f = refl
       from false false e d f = refl
       from false true e d f =
-          let ok = limit-kept k s (image-limit k s e) in
+          let ok = clear-kept k s e in
           absurd (f ((ok .low, ok .high), ok .long, ltb-true j (2 ^ k) d))

@@ -14,7 +14,8 @@ use Rattle.answers.specs.Refusal.{Refusal, Outcome, outcome, served}
 use Rattle.answers.proofs.Order.{avoids, first, later, shared}
 use Rattle.precision.specs.Precision.{imageLength}
 use Rattle.nodes.specs.Nodes.{node}
-use Rattle.image.specs.Refusals.{wordRefusal}
+use Rattle.layout.specs.Refusals.{wordRefusal}
+use Rattle.image.specs.Image.{plain}
 use Rattle.operand.specs.Operand.{cutOperand}
 use Rattle.operand.specs.Refusals.{fractionRefusal, operandRefusal}
 use Rattle.operand.proofs.Laws.{cut-normalised, cut-greatest}
@@ -54,18 +55,18 @@ module _ (k n X : ℕ) (rs : List Refusal) (v : ℕ) where
 -- the words of node j, which has one, and of node j + 1, which may have none
 module _ (k : ℕ) (s : List ℕ) (j v : ℕ) (h : j < 2 ^ k) where
   abbrev words : List Refusal
-  words = wordRefusal k s j ∷ wordRefusal k s (j + 1) ∷ []
+  words = wordRefusal (plain k) s j ∷ wordRefusal (plain k) s (j + 1) ∷ []
 
   words-6 : (outcome words v .number ≡ 6) ↔ ((IsRightAt k s j → ⊥) ⊎ ((j + 1 < 2 ^ k) × (IsRightAt k s (j + 1) → ⊥)))
   words-6 =
-      joined (shared (wordRefusal k s j) (wordRefusal k s (j + 1) ∷ []) v)
-      (either (joined (wrong-word k s j) (λ t. t .1, λ f. (h, f))) (joined (first (wordRefusal k s (j + 1)) [] v tt) (wrong-word k s (j + 1))))
+      joined (shared (wordRefusal (plain k) s j) (wordRefusal (plain k) s (j + 1) ∷ []) v)
+      (either (joined (wrong-word k s j) (λ t. t .1, λ f. (h, f))) (joined (first (wordRefusal (plain k) s (j + 1)) [] v tt) (wrong-word k s (j + 1))))
 
   words-0 : (outcome words v .number ≡ 0) ↔ (IsRightAt k s j × (j + 1 < 2 ^ k → IsRightAt k s (j + 1)))
   words-0 =
-      joined (later 0 (wordRefusal k s j) (wordRefusal k s (j + 1) ∷ []) v tt)
+      joined (later 0 (wordRefusal (plain k) s j) (wordRefusal (plain k) s (j + 1) ∷ []) v tt)
       (both (joined (no-wrong-word k s j) (λ f. f h, λ r m. r))
-      (joined (later 0 (wordRefusal k s (j + 1)) [] v tt) (joined alone (no-wrong-word k s (j + 1)))))
+      (joined (later 0 (wordRefusal (plain k) s (j + 1)) [] v tt) (joined alone (no-wrong-word k s (j + 1)))))
 
 -- the whole call
 module _ (k n X : ℕ) where

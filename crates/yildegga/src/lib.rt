@@ -3,6 +3,7 @@
 ghost use mathlib.Core.Path.{_≡_};
 ghost use Rattle.answers.specs.Answer.{done, nodeRead, reciprocalGiven, part};
 ghost use Rattle.precision.specs.Precision.{lengthOr0};
+ghost use Rattle.nodes.specs.Nodes.{nodeOr0};
 ghost use Rattle.image.specs.Calls.{buildOutcome, buildLeaves, checkOutcome, nodeOutcome, shownFrom, shownCount};
 ghost use Rattle.interpolation.specs.Calls.{reciprocalOutcome};
 use answers::Done;
@@ -10,6 +11,7 @@ use answers::NodeRead;
 use answers::Part;
 use answers::ReciprocalGiven;
 use precision::Precision;
+use units::TableUnits;
 
 // The bytes of the image of precision k, 0 where k is no precision.
 #[no_mangle]
@@ -42,6 +44,14 @@ pub extern "C" fn yildegga_node(k: u32, image: &[u8], j: u32) -> NodeRead
     ensures { λ r. ⌜ r ≡ nodeRead (nodeOutcome k (now (image .entry)) j) ⌝ }
 {
     reading::node(Precision(k), image, j)
+}
+
+// Node j of precision 8 by the constant table, with no image lent, 0 where j is above 256.
+#[no_mangle]
+pub extern "C" fn yildegga_node_8(j: u32) -> TableUnits
+    ensures { λ r. ⌜ r .0 ≡ nodeOr0 8 j ⌝ }
+{
+    nodes::node_8(j)
 }
 
 // Where in the image the bytes stand that hold the word of node j, by the place of the first and their number.

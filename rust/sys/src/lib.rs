@@ -32,6 +32,14 @@ pub struct Answer {
     pub value: u64,
 }
 
+/// A count of table units, `yildegga_table_units`.
+#[repr(C)]
+#[derive(Clone, Copy, Debug, PartialEq, Eq)]
+pub struct TableUnits {
+    /// How many they are.
+    pub count: u64,
+}
+
 /// The bytes `offset` to `offset + count - 1` of the caller's image, `yildegga_part`; 0 and 0 where none are shown.
 #[repr(C)]
 #[derive(Clone, Copy, Debug, PartialEq, Eq)]
@@ -47,6 +55,7 @@ extern "C" {
     fn yildegga_build(k: u32, image: *mut u8, length: usize) -> Answer;
     fn yildegga_check(k: u32, image: *const u8, length: usize) -> Answer;
     fn yildegga_node(k: u32, image: *const u8, length: usize, j: u32) -> Answer;
+    fn yildegga_node_8(j: u32) -> TableUnits;
     fn yildegga_word_bytes(k: u32, image: *const u8, length: usize, j: u32) -> Part;
     fn yildegga_reciprocal(k: u32, image: *const u8, length: usize, n: u32, x: u64) -> Answer;
 }
@@ -77,6 +86,13 @@ pub fn check(k: u32, image: &[u8]) -> Answer {
 pub fn node(k: u32, image: &[u8], j: u32) -> Answer {
     // SAFETY: pointer and length are those of one slice.
     unsafe { yildegga_node(k, image.as_ptr(), image.len(), j) }
+}
+
+/// Node j of precision 8, by the table of constants.
+#[inline]
+pub fn node_8(j: u32) -> TableUnits {
+    // SAFETY: it takes a number alone.
+    unsafe { yildegga_node_8(j) }
 }
 
 /// Where the word of node j stands in the image.

@@ -1,8 +1,8 @@
-//! Right images: built, checked, and every node and word read.
+//! Right images: built, checked, and every node and word read. The nodes that need no image.
 use crate::both::Both;
-use crate::independent::{is_precision, power, precisions, table, Judged, GREATEST, LEAST, LENGTHS};
+use crate::independent::{constant_node, is_precision, power, precisions, table, Judged, GREATEST, LEAST, LENGTHS};
 use crate::lent::{Buffer, Guards};
-use crate::library;
+use crate::library::{self, TableUnits};
 use crate::random::Random;
 use crate::work::{share, Counted};
 
@@ -78,6 +78,22 @@ pub fn lengths() -> Counted {
         let found = library::image_length(k);
         if found != expected {
             return Err(format!("image length, k {k}: the library gives {found}, expected is {expected}"));
+        }
+        cases += 1;
+    }
+    Ok(cases)
+}
+
+/// The constant nodes of precision 8, and numbers above the last one.
+pub fn constant_nodes() -> Counted {
+    let last = power(8) as u32;
+    let others = (9..32).flat_map(|at| [1u32 << at, (1 << at) - 1, (1 << at) + 1, (1 << at) + last, u32::MAX - (1 << at)]);
+    let mut cases = 0;
+    for j in (0..=300).chain(others).chain([u32::MAX - last, u32::MAX - 1, u32::MAX]) {
+        let expected = TableUnits { count: constant_node(j) };
+        let found = library::node_8(j);
+        if found != expected {
+            return Err(format!("constant node, j {j}: the library gives {found:?}, expected is {expected:?}"));
         }
         cases += 1;
     }

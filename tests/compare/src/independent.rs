@@ -70,6 +70,11 @@ pub fn table(k: u32) -> &'static Table {
     &TABLES.get_or_init(|| precisions().map(Table::new).collect())[(k - LEAST) as usize]
 }
 
+/// What stands for node j of precision 8 where no image is given: its value, and 0 where there is no such node.
+pub fn constant_node(j: u32) -> u64 {
+    table(8).nodes.get(j as usize).copied().unwrap_or(0)
+}
+
 /// The piece of a normalised operand: it lies between nodes j and j + 1.
 fn piece(k: u32, n: u32, x: u64) -> usize {
     (u128::from(x) * power(k) / power(n) - power(k)) as usize

@@ -50,6 +50,7 @@ impl Parts<'_> {
         self.part("every cut operand", operands::every_cut_operand);
         self.part("longer operands", operands::long_operands);
         self.part("image lengths", images::lengths);
+        self.part("constant nodes", images::constant_nodes);
         self.part("images built", || images::built(Bytes, &shifts));
         self.part("images read", || images::read(Bytes, &shifts));
         self.part("one bit changed", || damage::one_bit(Bytes, |_| 1));

@@ -1,10 +1,10 @@
 //! Numbers at and beyond each limit, in every combination.
 use crate::both::{told, Both};
 use crate::independent::{
-    image_refusals, is_precision, node_refusals, power, reciprocal_refusals, table, Judged, Refusal, GREATEST, LENGTHS,
+    constant_node, image_refusals, is_precision, node_refusals, power, reciprocal_refusals, table, Judged, Refusal, GREATEST, LENGTHS,
 };
 use crate::lent::{Buffer, Guards};
-use crate::library::{self, wide, Answer, Lent, Part};
+use crate::library::{self, wide, Answer, Lent, Part, TableUnits};
 use crate::random::Random;
 use crate::work::{share, Counted};
 use std::ptr;
@@ -169,19 +169,19 @@ pub fn upper_halves(guards: Guards) -> Counted {
                     [wide::build(wide_k, lent), wide::check(wide_k, lent)],
                     [wide::node(wide_k, lent, wide_j), wide::bound_node(wide_k, lent, wide_j)],
                     [wide::reciprocal(wide_k, lent, wide_n, x), wide::bound_reciprocal(wide_k, lent, wide_n, x)],
-                    (wide::word_bytes(wide_k, lent, wide_j), wide::image_length(wide_k)),
+                    (wide::word_bytes(wide_k, lent, wide_j), wide::image_length(wide_k), wide::node_8(wide_j)),
                 );
                 let expected = (
                     [judged.build(), judged.check()],
                     [judged.node(j); 2],
                     [judged.reciprocal(n, x); 2],
-                    (judged.word_bytes(j), image_length),
+                    (judged.word_bytes(j), image_length, TableUnits { count: constant_node(j) }),
                 );
                 if found != expected {
                     let inputs = format!("each call, k {k}, j {j}, n {n}, x {x}, its image, above the numbers {upper:#x}");
                     return Err(format!("{inputs}: the library gives {found:?}, expected is {expected:?}"));
                 }
-                cases += 6;
+                cases += 7;
             }
         }
         buffer.as_kept(|| format!("each call, k {k}, on its image"))?;

@@ -37,14 +37,14 @@ abbrev μ-loop2 : tie.MeasureT-loop2
 
 -- the state behind a word that is taken in
 taken-in : (c : tie.After-joined Inv-loop μ-loop Inv-loop2 μ-loop2)
-    → Filling (c .before .before .before .before .before .before .before .args .width) (c .before .before .before .before .before .before .before .args .count)
-    (words (c .before .before .before .before .before .before .before .args .numerator) (c .before .before .before .before .before .before .before .args .first) (c .before .before .before .before .before .before .before .args .width))
+    → Filling (c .before .before .before .before .before .before .before .args .table .width) (c .before .before .before .before .before .before .before .args .table .count)
+    (words (c .before .before .before .before .before .before .before .args .table .numerator) (c .before .before .before .before .before .before .before .args .table .first) (c .before .before .before .before .before .before .before .args .table .width))
     (c .before .before .before .before .before .before .before .args .image .now) (c .before .before .before .before .before .loop .image)
-    (c .joined .result) (c .before .before .before .before .before .loop .left + c .before .before .before .before .before .before .before .args .width)
+    (c .joined .result) (c .before .before .before .before .before .loop .left + c .before .before .before .before .before .before .before .args .table .width)
     (c .before .before .before .before .before .loop .at) (c .before .before .before .before .before .loop .j + 1)
 taken-in c =
     let s = c .before .before .before .before .before .loop .inv in
-    let w = c .before .before .before .before .before .before .before .args .width in
+    let w = c .before .before .before .before .before .before .before .args .table .width in
     let word = c .before .before .below in
     rw (c .joined .ensures, c .before .below2 .ensures)
     (take (s .0) (word .result)
@@ -55,8 +55,8 @@ taken-in c =
 
 -- and the state in the second loop
 filled : (c : tie.At-loop2 Inv-loop μ-loop Inv-loop2 μ-loop2)
-    → Filling (c .before .before .before .before .args .width) (c .before .before .before .before .args .count)
-    (words (c .before .before .before .before .args .numerator) (c .before .before .before .before .args .first) (c .before .before .before .before .args .width))
+    → Filling (c .before .before .before .before .args .table .width) (c .before .before .before .before .args .table .count)
+    (words (c .before .before .before .before .args .table .numerator) (c .before .before .before .before .args .table .first) (c .before .before .before .before .args .table .width))
     (c .before .before .before .before .args .image .now) (c .loop2 .image)
     (c .before .before .loop .waiting) (c .loop2 .left) (c .loop2 .at) (c .before .before .loop .j)
 filled c = c .loop2 .inv _ (c .before .before .loop .inv .0)
@@ -79,7 +79,7 @@ below-requires-2 c κs = omega (arith, c .before .before .before .loop .inv .1)
 joined-requires : tie.Need-joined-requires Inv-loop μ-loop Inv-loop2 μ-loop2
 joined-requires c κs =
     let s = c .before .before .before .before .loop .inv in
-    let w = c .before .before .before .before .before .before .args .width in
+    let w = c .before .before .before .before .before .before .args .table .width in
     (omega arith, rw (c .below2 .ensures) (joined-fits (s .0) (c .before .below .result) w (rw (c .before .below .ensures) (mod-lt _ (pow-pos w))) (omega (arith, s .1))))
 
 add-left : tie.Need-add-left Inv-loop μ-loop Inv-loop2 μ-loop2

@@ -7,13 +7,13 @@ use native.Mathlib.Omega.{arith}
 use borrow.Author.Needs.{needs}
 use Rattle.bits.proofs.Laws.{power-fits}
 use Rattle.interpolation.specs.Algorithm.{sumOver}
-use Rattle.inverting.specs.Cut.{IsPiece}
+use Rattle.inverting.specs.Inner.{IsPiece}
 use Rattle.inverting.proofs.interpolated.Statement.{statement}
 use Rattle.inverting.proofs.interpolated.Tie as tie
 
 -- the width of a piece
-width : (c : tie.After-power) → c .power .result ≡ 2 ^ c .before .args .piece
-width c = c .power .ensures ∙ power-fits (c .before .args .piece) (c .before .pre .small)
+width : (c : tie.After-power) → c .power .result ≡ 2 ^ c .before .args .fraction-bits
+width c = c .power .ensures ∙ power-fits (c .before .args .fraction-bits) (c .before .pre .small)
 
 -- the second product is no greater than the first
 difference : {c c' f w : ℕ} → IsPiece c c' f w → (c - c') * f ≤ c * 2 ^ w
@@ -41,7 +41,7 @@ returns : tie.Need-returns
 returns c =
     let a = c .before .before .before .before .before .args in
     c .high .ensures
-    ∙ ap (λ (F : ℕ). sumOver F (a .lower .0) (a .upper .0) (a .f) / 2 ^ a .unit) (width (c .before .before .before .before))
+    ∙ ap (λ (F : ℕ). sumOver F (a .lower .0) (a .upper .0) (a .f) / 2 ^ a .chopped-bits) (width (c .before .before .before .before))
 
 pub interpolated-spec : {M : Type 1} → statement M
 interpolated-spec =

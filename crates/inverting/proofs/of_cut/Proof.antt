@@ -8,23 +8,25 @@ use native.Mathlib.Omega.{arith}
 use lib.Pow.{pow-mono}
 use borrow.Author.Needs.{needs}
 use Rattle.precision.specs.Precision.{wordWidth}
-use Rattle.packing.specs.Packing.{Bytes, windowAt}
+use Rattle.precision.proofs.Range.{range-in, words-in-range}
+use Rattle.packing.specs.Packing.{Bytes}
+use Rattle.packing.specs.Inner.{windowAt}
 use Rattle.packing.proofs.Fields.{window-field}
 use Rattle.answers.specs.Answer.{reciprocalGiven}
-use Rattle.image.specs.Calls.{imageFront}
+use Rattle.image.specs.Inner.{ownBytes}
 use Rattle.image.proofs.Limits.{ImageKept, limit-none, limit-kept}
-use Rattle.image.proofs.OwnBytes.{front-bytes}
+use Rattle.image.proofs.OwnBytes.{own-bytes}
 use Rattle.interpolation.specs.Algorithm.{nodeNumber}
 use Rattle.interpolation.proofs.Cut.{cut-index-least, cut-index-most, cut-number-below}
 use Rattle.interpolation.specs.Calls.{cutOutcome}
-use Rattle.inverting.specs.Piece.{bothIn, endsOutcome, carried}
-use Rattle.inverting.proofs.Ends.{bothWords, ends-of-cut, carries-served, carries-wrong}
+use Rattle.inverting.specs.Inner.{bothIn, endsOutcome, outcomeOf}
+use Rattle.inverting.proofs.Ends.{bothWords, ends-of-cut, code-served, code-wrong}
 use Rattle.inverting.proofs.of_cut.Statement.{statement}
 use Rattle.inverting.proofs.of_cut.Tie as tie
 
 -- the precision, the image and the cut operand, at the place where the code has j
 abbrev start : tie.After-word-count → tie.Start
-start c = c .before .before .before .before .before .before
+start c = c .before .before .before .before .before
 
 abbrev k : tie.After-word-count → ℕ
 k c = start c .args .k .0
@@ -40,7 +42,7 @@ kept : (c : tie.After-word-count) → ImageKept (k c) (s c)
 kept c = let p = start c .pre in limit-kept (k c) (s c) (limit-none (k c) (s c) (p .low) (p .high) (p .long))
 
 bytes : (c : tie.After-word-count) → Bytes (s c)
-bytes c i = omega (arith, c .before .before .before .before .before .shared-slice-known .given i)
+bytes c i = omega (arith, c .before .before .before .before .shared-slice-known .given i)
 
 -- j is below 2^k, and so of 12 bits
 below : (c : tie.After-word-count) → nodeNumber (k c) (t c) < 2 ^ k c
@@ -57,7 +59,7 @@ is-width : (c : tie.After-word-count) → width c ≡ wordWidth (k c)
 is-width c = c .before .before .before .word-width .ensures
 
 count : (c : tie.After-word-count) → c .word-count .result ≡ 2 ^ k c
-count c = c .word-count .ensures ∙ kept c .words
+count c = c .word-count .ensures ∙ words-in-range (k c) (range-in (k c) (start c .pre .low) (start c .pre .high))
 
 abbrev number : tie.After-word-count → ℕ
 number c = c .before .high .result - c .word-count .result
@@ -67,42 +69,39 @@ is-number c = ap (λ (i : ℕ). i - c .word-count .result) (c .before .high .ens
 
 -- so the words in its window are those of nodes j and j + 1
 reads : (c : tie.After-window)
-    → bothIn (k (c .before)) (c .window .result) ≡ bothWords (k (c .before)) (s (c .before)) (t (c .before)) (kept (c .before)) (start (c .before) .pre .least) (start (c .before) .pre .most) (bytes (c .before))
+    → bothIn (k (c .before .before)) (c .window .result) ≡ bothWords (k (c .before .before)) (s (c .before .before)) (t (c .before .before)) (kept (c .before .before)) (start (c .before .before) .pre .least) (start (c .before .before) .pre .most) (bytes (c .before .before))
 reads c =
-    let at = c .before in
-    let front = imageFront (k at) (s at) in
+    let at = c .before .before in
+    let own = ownBytes (k at) (s at) in
     let narrow : 2 * wordWidth (k at) ≤ 57 = omega (arith, start at .pre .high) in
     ap (bothIn (k at))
     (c .window .ensures
-    ∙ ap (λ (f : List ℕ). windowAt f (number at * width at)) (at .before .before .before .before .front .ensures .0)
-    ∙ ap (λ (i : ℕ). windowAt front (i * width at)) (is-number at)
-    ∙ ap (λ (w : ℕ). windowAt front (nodeNumber (k at) (t at) * w)) (is-width at))
-    ∙ window-field front (nodeNumber (k at) (t at) * wordWidth (k at)) (2 * wordWidth (k at)) (front-bytes (k at) (s at) (kept at) (bytes at)) narrow
+    ∙ ap (λ (f : List ℕ). windowAt f (number at * width at)) (c .before .own-bytes .ensures .0)
+    ∙ ap (λ (i : ℕ). windowAt own (i * width at)) (is-number at)
+    ∙ ap (λ (w : ℕ). windowAt own (nodeNumber (k at) (t at) * w)) (is-width at))
+    ∙ window-field own (nodeNumber (k at) (t at) * wordWidth (k at)) (2 * wordWidth (k at)) (own-bytes (k at) (s at) (kept at) (bytes at)) narrow
 
 -- and what they give is the answer
-answers : (c : tie.After-by-precision) → carried (c .by-precision .result) ≡ cutOutcome (k (c .before .before)) (s (c .before .before)) (t (c .before .before))
+answers : (c : tie.After-by-precision) → outcomeOf (c .by-precision .result) ≡ cutOutcome (k (c .before .before .before)) (s (c .before .before .before)) (t (c .before .before .before))
 answers c =
-    let at = c .before .before in
+    let at = c .before .before .before in
     let p = start at .pre in
     c .by-precision .ensures
     ∙ ap (λ (b : ℕ). endsOutcome (k at) b (t at)) (reads (c .before))
     ∙ ends-of-cut (k at) (s at) (t at) (kept at) (p .least) (p .most) (bytes at)
 
-front-requires : tie.Need-front-requires
-front-requires c κs = search needs
-
 word-width-requires : tie.Need-word-width-requires
 word-width-requires c κs = search needs
 
 add-high : tie.Need-add-high
-add-high c = omega (arith, c .before .before .before .before .pre .high)
+add-high c = omega (arith, c .before .before .before .pre .high)
 
 high-requires : tie.Need-high-requires
 high-requires c κs = search needs
 
 cast-j : tie.Need-cast-j
 cast-j c =
-    let p = c .before .before .before .before .before in
+    let p = c .before .before .before .before in
     omega (arith, c .high .ensures, cut-index-most (p .args .k .0) (p .args .t) (p .pre .least) (p .pre .most), pow-mono (p .pre .high))
 
 word-count-requires : tie.Need-word-count-requires
@@ -112,13 +111,17 @@ sub-j : tie.Need-sub-j
 sub-j c =
     omega (arith, c .before .high .ensures, count c, cut-index-least (k c) (t c) (start c .pre .least) (start c .pre .most))
 
+own-bytes-requires : tie.Need-own-bytes-requires
+own-bytes-requires c κs = search needs
+
 cast-window : tie.Need-cast-window
 cast-window c = search needs
 
 mul-window : tie.Need-mul-window
 mul-window c =
-    let m : number c ≤ 4096 = omega (arith, is-number c, below c, few c) in
-    let n : width c ≤ 26 = omega (arith, is-width c, start c .pre .high) in
+    let at = c .before in
+    let m : number at ≤ 4096 = omega (arith, is-number at, below at, few at) in
+    let n : width at ≤ 26 = omega (arith, is-width at, start at .pre .high) in
     omega (arith, mul-le-mul m n)
 
 window-requires : tie.Need-window-requires
@@ -126,31 +129,31 @@ window-requires c κs = search needs
 
 by-precision-requires : tie.Need-by-precision-requires
 by-precision-requires c κs =
-    let at = c .before in
+    let at = c .before .before in
     let p = start at .pre in
     record { low = p .low; high = p .high; least = p .least; most = p .most; number = is-number at }
 
 returns : tie.Need-returns
 returns c =
     let code = c .before .by-precision .result in
-    ap reciprocalGiven (sym (carries-served code (omega (arith, c .if1 .taken))) ∙ answers (c .before))
+    ap reciprocalGiven (sym (code-served code (omega (arith, c .if1 .taken))) ∙ answers (c .before))
 
 returns-2 : tie.Need-returns-2
 returns-2 c =
     let code = c .before .by-precision .result in
-    ap reciprocalGiven (sym (carries-wrong code (omega (arith, c .if1 .left))) ∙ answers (c .before))
+    ap reciprocalGiven (sym (code-wrong code (omega (arith, c .if1 .left))) ∙ answers (c .before))
 
 pub of-cut-spec : {M : Type 1} → statement M
 of-cut-spec =
     tie.close
     (tie.spec
-    front-requires
     word-width-requires
     add-high
     high-requires
     cast-j
     word-count-requires
     sub-j
+    own-bytes-requires
     cast-window
     mul-window
     window-requires

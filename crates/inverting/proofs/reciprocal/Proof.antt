@@ -7,25 +7,26 @@ use native.Mathlib.Omega.{arith}
 use lib.ListN.{length}
 use borrow.Author.Needs.{needs}
 use Rattle.answers.specs.Answer.{reciprocalGiven}
-use Rattle.image.specs.Refusals.{brokenLimit}
+use Rattle.image.specs.Inner.{refusalNumber}
 use Rattle.image.proofs.Limits.{ImageKept, limit-refuses, limit-passes, limit-kept}
 use Rattle.operand.specs.Operand.{cutOperand}
-use Rattle.operand.specs.Refusals.{brokenOperand, fractionRefusal, operandRefusal}
+use Rattle.operand.specs.Refusals.{fractionRefusal, operandRefusal}
+use Rattle.operand.specs.Inner.{operandNumber}
 use Rattle.operand.proofs.Laws.{cut-normalised}
 use Rattle.operand.proofs.Limits.{OperandKept, operand-refuses, operand-passes, operand-kept}
 use Rattle.interpolation.specs.Reciprocal.{readReciprocal}
 use Rattle.interpolation.specs.Calls.{cutRefusals, cutOutcome}
-use Rattle.inverting.specs.Cut.{IsCut}
+use Rattle.inverting.specs.Inner.{IsCut}
 use Rattle.inverting.proofs.reciprocal.Statement.{statement}
 use Rattle.inverting.proofs.reciprocal.Tie as tie
 
 -- behind the first test k and the image keep their limits
-limit : (c : tie.Else1) → brokenLimit (c .before .before .before .args .k .0) (length (c .before .before .before .args .image .now)) ≡ 0
-limit c = omega (arith, c .before .broken-limit .ensures, c .if1 .left)
+limit : (c : tie.Else1) → refusalNumber (c .before .before .before .args .k .0) (length (c .before .before .before .args .image .now)) ≡ 0
+limit c = omega (arith, c .before .refusal-number .ensures, c .if1 .left)
 
 -- behind the second n and X keep theirs
-limit-2 : (c : tie.Else2) → brokenOperand (c .before .before .before .before .before .args .k .0) (c .before .before .before .before .before .args .n) (c .before .before .before .before .before .args .x) ≡ 0
-limit-2 c = omega (arith, c .before .broken-limit2 .ensures .0, c .if2 .left)
+limit-2 : (c : tie.Else2) → operandNumber (c .before .before .before .before .before .args .k .0) (c .before .before .before .before .before .args .n) (c .before .before .before .before .before .args .x) ≡ 0
+limit-2 c = omega (arith, c .before .refusal-number2 .ensures .0, c .if2 .left)
 
 -- an operand that keeps them is cut to one of 2k + 3 fraction bits
 cut-is : (k : ℕ) (s : List ℕ) (n X : ℕ) → ImageKept k s → OperandKept k n X → IsCut k s (cutOperand k n X)
@@ -33,22 +34,22 @@ cut-is k s n X a b =
     let r = cut-normalised k n X (b .enough) (b .least) (b .below) in
     record { low = a .low; high = a .high; long = a .long; least = r .0; most = r .1 }
 
-broken-limit-requires : tie.Need-broken-limit-requires
-broken-limit-requires c κs = search needs
+refusal-number-requires : tie.Need-refusal-number-requires
+refusal-number-requires c κs = search needs
 
 returns : tie.Need-returns
 returns c =
     let a = c .before .before .before .args in
     let k = a .k .0 in
     let s = a .image .now in
-    let p = c .before .broken-limit .ensures in
+    let p = c .before .refusal-number .ensures in
     rw p
     (ap reciprocalGiven
     (sym (limit-refuses k s (fractionRefusal k (a .n) ∷ operandRefusal (a .n) (a .x) ∷ cutRefusals k s (cutOperand k (a .n) (a .x))) (readReciprocal k s (cutOperand k (a .n) (a .x)))
     (λ e. omega (arith, c .if1 .taken, p, e)))))
 
-broken-limit-requires-2 : tie.Need-broken-limit-requires-2
-broken-limit-requires-2 c κs = search needs
+refusal-number-requires-2 : tie.Need-refusal-number-requires-2
+refusal-number-requires-2 c κs = search needs
 
 returns-2 : tie.Need-returns-2
 returns-2 c =
@@ -56,7 +57,7 @@ returns-2 c =
     let k = a .k .0 in
     let s = a .image .now in
     let t = cutOperand k (a .n) (a .x) in
-    let p = c .before .broken-limit2 .ensures .0 in
+    let p = c .before .refusal-number2 .ensures .0 in
     rw p
     (ap reciprocalGiven
     (sym (limit-passes k s (fractionRefusal k (a .n) ∷ operandRefusal (a .n) (a .x) ∷ cutRefusals k s t) (readReciprocal k s t) (limit (c .before .before))
@@ -89,9 +90,9 @@ pub reciprocal-spec : {M : Type 1} → statement M
 reciprocal-spec =
     tie.close
     (tie.spec
-    broken-limit-requires
+    refusal-number-requires
     returns
-    broken-limit-requires-2
+    refusal-number-requires-2
     returns-2
     cut-requires
     of-cut-requires

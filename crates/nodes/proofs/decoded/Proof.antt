@@ -6,23 +6,23 @@ use borrow.Author.Tests.{eq-eqb, ne-eqb}
 use Rattle.nodes.proofs.decoded.Statement.{statement}
 use Rattle.nodes.proofs.decoded.Tie as tie
 
-add-result : tie.Need-add-result
-add-result c = search needs
+add-t7 : tie.Need-add-t7
+add-t7 c = search needs
 
 returns : tie.Need-returns
 returns c = simp (ne-eqb _ _ (c .if1 .taken))
 
-add-result-2 : tie.Need-add-result-2
-add-result-2 c = search needs
+add-t10 : tie.Need-add-t10
+add-t10 c = search needs
 
 returns-2 : tie.Need-returns-2
 returns-2 c = simp (ne-eqb _ _ (c .if2 .taken), and-false)
 
-mul-result : tie.Need-mul-result
-mul-result c = search needs
+mul-t12 : tie.Need-mul-t12
+mul-t12 c = search needs
 
 returns-3 : tie.Need-returns-3
 returns-3 c = simp (eq-eqb _ _ (c .before .if1 .left), eq-eqb _ _ (c .if2 .left))
 
 pub decoded-spec : {M : Type 1} → statement M
-decoded-spec = tie.close (tie.spec add-result returns add-result-2 returns-2 mul-result returns-3)
+decoded-spec = tie.close (tie.spec add-t7 returns add-t10 returns-2 mul-t12 returns-3)

@@ -28,7 +28,7 @@ high-requires c κs = search needs
 returns-2 : tie.Need-returns-2
 returns-2 c =
     let a = c .before .before .before .args in
-    c .high .ensures ∙ ap (λ (e : ℕ). a .x / 2 ^ (a .n - e)) (c .before .before .cut-bits .ensures)
+    c .high .ensures ∙ ap (λ (e : ℕ). a .x / 2 ^ e) {y = a .n - (2 * a .k .0 + 3)} (omega (arith, c .before .before .cut-bits .ensures))
 
 pub cut-spec : {M : Type 1} → statement M
 cut-spec =

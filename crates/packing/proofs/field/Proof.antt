@@ -4,6 +4,7 @@ use mathlib.Core.Path.{refl, sym, ap, _∙_}
 use native.Mathlib.Omega.{arith}
 use denote.Ref.{now}
 use Rattle.packing.specs.Packing.{Bytes}
+use Rattle.packing.specs.Inner.{windowAt}
 use Rattle.packing.proofs.Fields.{window-field}
 use Rattle.packing.proofs.Reading.{field-wide, field-there}
 use borrow.Author.Needs.{needs}
@@ -30,7 +31,8 @@ returns-2 c =
     let a = known .before .args in
     let bytes : Bytes (now (a .s)) = λ i. omega (arith, known .shared-slice-known .given i) in (
       c .high .ensures
-          ∙ ap (λ (x : ℕ). x / 2 ^ (64 - a .width)) (c .before .window .ensures)
+          ∙ ap (λ (e : ℕ). c .before .window .result / 2 ^ e) {y = 64 - a .width} (omega arith)
+          ∙ ap (λ (x : ℕ). x / 2 ^ (64 - a .width)) (c .before .window .ensures ∙ ap (windowAt (now (a .s))) {y = a .from} (omega arith))
           ∙ window-field (now (a .s)) (a .from) (a .width) bytes (omega (arith, c .before .before .if1 .left))
           ∙ sym (field-there (now (a .s)) (a .from) (a .width) (omega (arith, c .before .before .if1 .left))),
       refl,

@@ -1,10 +1,11 @@
--- `quotient::rounds_up` meets its contract: the product reaches the numerator, and passes it by less than the divisor.
+-- `quotient::rounds_up` meets its contract: a difference that wraps is not below the divisor.
 -- Assumes nothing.
-use Prim.Native.Nat.{_≤_}
+use Prim.Native.Nat.{_*_, _≤_}
 use native.Mathlib.Nat.{mul-le-mul}
 use native.Mathlib.Omega.{arith}
-use borrow.Author.Tests.{lt-leb, le-leb}
-use Rattle.quotient.proofs.Laws.{passes-test}
+use borrow.Author.Needs.{needs}
+use Rattle.quotient.specs.Inner.{numeratorBits}
+use Rattle.quotient.proofs.Laws.{wrapped-test}
 use Rattle.quotient.proofs.rounds_up.Statement.{statement}
 use Rattle.quotient.proofs.rounds_up.Tie as tie
 
@@ -14,11 +15,13 @@ mul-product c =
     let i : c .args .divisor ≤ 4294967295 = omega arith in
     omega (arith, mul-le-mul v i)
 
-returns : tie.Need-returns
-returns c = simp (lt-leb _ _ (c .if1 .taken))
+wrapping-sub-u64-requires : tie.Need-wrapping-sub-u64-requires
+wrapping-sub-u64-requires c κs = search needs
 
-returns-2 : tie.Need-returns-2
-returns-2 c = simp (le-leb _ _ (c .if1 .left)) (passes-test _ _ (c .before .args .divisor) (c .if1 .left))
+returns : tie.Need-returns
+returns c =
+    let a = c .before .args in
+    wrapped-test (c .wrapping-sub-u64 .result) (a .value * a .divisor) (numeratorBits (a .numerator)) (a .divisor) (omega arith) (omega arith) (c .wrapping-sub-u64 .ensures)
 
 pub rounds-up-spec : {M : Type 1} → statement M
-rounds-up-spec = tie.close (tie.spec mul-product returns returns-2)
+rounds-up-spec = tie.close (tie.spec mul-product wrapping-sub-u64-requires returns)

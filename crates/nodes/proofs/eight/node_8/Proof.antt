@@ -1,33 +1,32 @@
--- `nodes::node_8` meets its contract: the table's entries are the nodes of precision 8.
+-- `nodes::node_8` meets its contract: the table's entries are the nodes of precision 8, by one test over the whole table.
 -- Assumes nothing.
-use mathlib.Core.Path.{sym, refl, _∙_}
+use mathlib.Core.Path.{refl, sym}
 use native.Mathlib.Omega.{arith}
 use borrow.Author.Needs.{needs}
-use Rattle.nodes.proofs.Constants.{nodes8, nodes-8}
-use Rattle.nodes.proofs.Nodes.{node-past, node-there, node-ordered, node-first}
+use Rattle.constant_lists.proofs.List.{read, entry}
+use Rattle.quotient.specs.Quotient.{roundedUp}
+use Rattle.nodes.specs.Nodes.{node}
+use Rattle.nodes.proofs.Nodes.{node-past, node-there}
 use Rattle.nodes.proofs.eight.node_8.Statement.{statement}
 use Rattle.nodes.proofs.eight.node_8.Tie as tie
 
 returns : tie.Need-returns
 returns c = sym (node-past 8 (c .before .args .j) (omega arith))
 
-mul-t5 : tie.Need-mul-t5
-mul-t5 c = search needs
+mul-wide : tie.Need-mul-wide
+mul-wide c = search needs
 
-array-read-t8 : tie.Need-array-read-t8
-array-read-t8 c = search needs
+array-read-wide : tie.Need-array-read-wide
+array-read-wide c = search needs
 
-cast-t9 : tie.Need-cast-t9
-unfolding nodes8
-cast-t9 c =
-    let j = c .before .args .j in
-    omega (arith, nodes-8 j (omega arith), node-ordered 8 {i = 0} {j = j} (omega arith), node-first 8)
+wide-requires : tie.Need-wide-requires
+wide-requires c κs = search needs
 
 returns-2 : tie.Need-returns-2
-unfolding nodes8
+unfolding roundedUp
 returns-2 c =
-    let j = c .before .args .j in
-    nodes-8 j (omega arith) ∙ sym (node-there 8 refl j (omega arith))
+    let j = c .before .before .args .j in
+    rw (c .wide .ensures, read, node-there 8 refl j (omega arith)) (entry (node 8) _ j (search needs) refl)
 
 pub node-8-spec : {M : Type 1} → statement M
-node-8-spec = tie.close (tie.spec returns mul-t5 array-read-t8 cast-t9 returns-2)
+node-8-spec = tie.close (tie.spec returns mul-wide array-read-wide wide-requires returns-2)

@@ -1,25 +1,29 @@
 -- `Precision::image_length` meets its contract: the list of lengths follows the formula, by one test over the whole list.
 -- Assumes nothing.
 use mathlib.Core.Path.{refl, _≡_, _∙_, ap}
-use mathlib.Core.List.{List, [], _∷_}
-use Prim.Native.Nat.{ℕ, _+_, _-_}
+use mathlib.Core.List.{List, []}
+use Prim.Native.Nat.{ℕ, _+_, _-_, _≤_, _<_}
+use lib.ListN.{length}
 use native.Mathlib.Omega.{arith}
 use borrow.Author.Needs.{needs}
 use borrow.Author.Tests.{le-leb, lt-leb}
-use Rattle.tables.proofs.Table.{entry}
+use Rattle.constant_lists.proofs.List.{miss, entryAt, read, entry}
 use Rattle.precision.specs.Precision.{imageLength}
 use Rattle.precision.proofs.Precision.image_length.Statement.{statement}
 use Rattle.precision.proofs.Precision.image_length.Tie as tie
 
--- the constant list, as the source has it (tests/tables.py writes both)
-lengths : List ℕ
-lengths = 1 ∷ 3 ∷ 8 ∷ 20 ∷ 48 ∷ 112 ∷ 256 ∷ 576 ∷ 1280 ∷ 2816 ∷ 6144 ∷ 13312 ∷ []
+-- a list that follows the formula has at k - 1 the length of k
+length-at : (xs : List ℕ) (k : ℕ) → 1 ≤ k → k - 1 < length xs → miss (λ (p : ℕ). imageLength (p + 1)) 0 xs ≡ [] → entryAt xs (k - 1) ≡ imageLength k
+length-at xs k h l t =
+    let e : k - 1 + 1 ≡ k = omega (arith, h) in entry (λ (p : ℕ). imageLength (p + 1)) xs (k - 1) l t ∙ ap imageLength e
 
 returns : tie.Need-returns
-returns c = (simp (lt-leb _ _ (c .if1 .taken)), refl)
+returns c = (simp (lt-leb 1 (c .before .args .self .0) (omega (arith, c .if1 .taken))) refl, refl)
 
 returns-2 : tie.Need-returns-2
-returns-2 c = (simp (lt-leb _ _ (c .if2 .taken), le-leb _ _ (c .before .if1 .left)), refl)
+returns-2 c =
+    let k = c .before .before .args .self .0 in
+    (simp (lt-leb k 12 (omega (arith, c .if2 .taken)), le-leb 1 k (omega (arith, c .before .if1 .left))) refl, refl)
 
 cast-result : tie.Need-cast-result
 cast-result c = search needs
@@ -31,12 +35,10 @@ array-read-result : tie.Need-array-read-result
 array-read-result c = search needs
 
 returns-3 : tie.Need-returns-3
-unfolding lengths
 returns-3 c =
-    let k = c .before .before .args .self .0 in
-    let e : k - 1 + 1 ≡ k = omega (arith, c .before .if1 .left) in (
-      simp (le-leb _ _ (c .if2 .left), le-leb _ _ (c .before .if1 .left))
-          (entry (λ (p : ℕ). imageLength (p + 1)) lengths tt (k - 1) (search needs) ∙ ap imageLength e),
+    let k = c .before .before .args .self .0 in (
+      simp (le-leb k 12 (omega (arith, c .if2 .left)), le-leb 1 k (omega (arith, c .before .if1 .left)), read)
+          (length-at _ k (omega (arith, c .before .if1 .left)) (search needs) refl),
       refl,
     )
 

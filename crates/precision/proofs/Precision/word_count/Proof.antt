@@ -2,8 +2,6 @@
 -- Assumes nothing.
 use mathlib.Core.Path.{_≡_, sym, _∙_}
 use mathlib.Core.Bool.{true, false}
-use Prim.Native.Nat.{_^_}
-use native.Mathlib.Nat.{one-mul, mod-eq-of-lt}
 use native.Mathlib.Omega.{arith}
 use lib.Pow.{pow-mono}
 use borrow.Author.Needs.{needs}
@@ -32,8 +30,7 @@ shl-result c = omega (arith, in-range (c .before .before .args .self .0) (ranged
 returns-2 : tie.Need-returns-2
 returns-2 c =
     let k = c .before .before .args .self .0 in
-    rw (one-mul (2 ^ k), words-in-range k (ranged c))
-    (mod-eq-of-lt (omega (arith, pow-mono (in-range k (ranged c) .1))))
+    omega (arith, words-in-range k (ranged c), pow-mono {i = k} (in-range k (ranged c) .1))
 
 pub word-count-spec : {M : Type 1} → statement M
 word-count-spec = tie.close (tie.spec in-range-requires returns shl-result returns-2)

@@ -1,0 +1,92 @@
+-- What holds of every table whose words have their width, and of a buffer that holds words for it.
+-- Assumes nothing.
+use mathlib.Core.Path.{_≡_, sym, _∙_, ap}
+use mathlib.Core.Bool.{false, not}
+use mathlib.Core.List.{List, [], _++_, append-nil}
+use Prim.Native.Nat.{ℕ, _+_, _*_, _^_, _≤_, _<_}
+use native.Mathlib.Omega.{arith}
+use lib.Dec.{eqb, lit<}
+use lib.ListN.{length, take, drop, length-take, length-append, length-drop}
+use lib.Seq.{take-at, drop-at}
+use borrow.Author.Tests.{eq-eqb, eqb-true, not-false}
+use Rattle.bools.proofs.Lowest.{lowest-agrees}
+use Rattle.packing.specs.Packing.{Bytes, firstByte, lastByte, spanBytes, bitAt, bitOfWord}
+use Rattle.packing.proofs.Image.{length-packedBytes, packed-word, word-of-front, words-front}
+use Rattle.packing.proofs.Words.{word-within, word-take, span-within}
+use Rattle.packing.proofs.Bits.{bit-of-packed}
+use Rattle.layout.specs.Layout.{Layout, endOf, lengthOf, imageOf, builtOver, wordIn, isWrong, firstWrong, partOf}
+
+-- every word has the width of a word
+pub record Fits (t : Layout) : Type 0 where
+  pub one : 1 ≤ t .width
+  pub words : (j : ℕ) → j < t .count → t .word j < 2 ^ t .width
+
+-- the words take whole bytes, so that no bits fill the last one
+abbrev pub Whole : Layout → Type 0
+Whole t = 8 * lengthOf t ≡ endOf t
+
+-- a word is wrong, or it is the table's
+module _ (t : Layout) (s : List ℕ) (j : ℕ) where
+  pub not-wrong : isWrong t s j ≡ false → wordIn t s j ≡ t .word j
+  not-wrong e = eqb-true (wordIn t s j) (t .word j) (not-false (eqb (wordIn t s j) (t .word j)) e)
+
+  pub right-not-wrong : wordIn t s j ≡ t .word j → isWrong t s j ≡ false
+  right-not-wrong e = ap not (eq-eqb (wordIn t s j) (t .word j) e)
+
+module _ (t : Layout) where
+  -- the image has the image length
+  pub image-length : length (imageOf t) ≡ lengthOf t
+  image-length = length-packedBytes (t .width) (t .word) (t .count)
+
+  -- a buffer that was built keeps its length, starts with the image, and ends as it did
+  pub built-length : (s : List ℕ) → lengthOf t ≤ length s → length (builtOver t s) ≡ length s
+  built-length s h = length-append (imageOf t) (drop (lengthOf t) s) ∙ omega (arith, image-length, length-drop (lengthOf t) s)
+
+  pub built-front : (s : List ℕ) → take (lengthOf t) (builtOver t s) ≡ imageOf t
+  built-front s = take-at (imageOf t) (drop (lengthOf t) s) (lengthOf t) image-length
+
+  pub built-rest : (s : List ℕ) → drop (lengthOf t) (builtOver t s) ≡ drop (lengthOf t) s
+  built-rest s = drop-at (imageOf t) (drop (lengthOf t) s) (lengthOf t) image-length
+
+  -- a word ends before the image does
+  pub word-inside : (j : ℕ) → j < t .count → j * t .width + t .width ≤ 8 * lengthOf t
+  word-inside j h = omega (arith, word-within (t .width) (t .count) j h)
+
+  -- buffers whose words agree have the same lowest wrong word
+  pub wrong-agrees : (s s' : List ℕ) → ((j : ℕ) → j < t .count → wordIn t s j ≡ wordIn t s' j) → firstWrong t s ≡ firstWrong t s'
+  wrong-agrees s s' e = lowest-agrees (isWrong t s) (isWrong t s') (t .count) (λ j h. ap (λ (x : ℕ). not (eqb x (t .word j))) (e j h))
+
+module _ (t : Layout) (fits : Fits t) where
+  -- the words of the image are the table's, whatever follows it
+  pub image-word : (j : ℕ) (u : List ℕ) → j < t .count → wordIn t (imageOf t ++ u) j ≡ t .word j
+  image-word j u h = packed-word (t .width) (t .word) (t .count) j u (fits .one) (fits .words) h
+
+  -- bit b of word j is bit j × w + b of the image
+  pub image-bit : (j b : ℕ) → j < t .count → b < t .width → bitAt (imageOf t) (j * t .width + b) ≡ bitOfWord (t .width) (t .word j) b
+  image-bit j b h l =
+      ap (λ (u : List ℕ). bitAt u (j * t .width + b)) (sym (append-nil (imageOf t)))
+      ∙ bit-of-packed (t .width) (t .word) (t .count) j b [] (λ i. lit< tt) (fits .words) h l
+
+  -- a word is the same in the image's own bytes, the front of the buffer, and so is the lowest wrong one
+  pub own-word : (s : List ℕ) (j : ℕ) → j < t .count → wordIn t (take (lengthOf t) s) j ≡ wordIn t s j
+  own-word s j h = word-take (t .width) (lengthOf t) s j (fits .one) (word-inside t j h)
+
+  pub own-wrong : (s : List ℕ) → firstWrong t (take (lengthOf t) s) ≡ firstWrong t s
+  own-wrong s = wrong-agrees t (take (lengthOf t) s) s (own-word s)
+
+  -- a buffer that starts with the image has its words, and, where they take whole bytes, the other way round
+  pub front-right : (s : List ℕ) → take (lengthOf t) s ≡ imageOf t → (j : ℕ) → j < t .count → wordIn t s j ≡ t .word j
+  front-right s e j h = word-of-front (t .width) (t .word) (t .count) j s (fits .one) (fits .words) e h
+
+  pub right-front : Whole t → (s : List ℕ) → Bytes s → lengthOf t ≤ length s → ((j : ℕ) → j < t .count → wordIn t s j ≡ t .word j) → take (lengthOf t) s ≡ imageOf t
+  right-front whole s b h r = words-front (t .width) (t .word) (t .count) s (fits .one) b h (omega (arith, whole)) r
+
+  -- the bytes of a word lie within a buffer that is long enough, and are as many as hold it
+  module _ (s : List ℕ) (j : ℕ) (h : j < t .count) (long : lengthOf t ≤ length s) where
+    pub part-inside : lastByte (t .width) j < length s
+    part-inside = omega (arith, span-within (t .width) (t .count) j (fits .one) h)
+
+    pub part-length : length (partOf t s j) ≡ spanBytes (t .width) j
+    part-length =
+        length-take (spanBytes (t .width) j) (drop (firstByte (t .width) j) s)
+        ∙ omega (arith, length-drop (firstByte (t .width) j) s, part-inside)
