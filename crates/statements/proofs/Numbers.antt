@@ -1,4 +1,4 @@
--- The numbers of the calls: the limits of k and the buffer in front of any list of refusals, the check where a word is wrong, and the
+-- The numbers of the calls: the limits of k and the buffer before any list of refusals, the check where a word is wrong, and the
 -- last refusals of reading a node.
 -- Assumes nothing.
 use mathlib.Core.Path.{_≡_, refl, sym, _∙_, ap}
@@ -29,7 +29,7 @@ use Rattle.statements.proofs.Iff.{joined, both, is-precision, no-precis
 pub alone : {A : Type 0} {n : ℕ} → (A × (n ≡ n)) ↔ A
 alone = (λ t. t .0, λ t. (t, refl))
 
--- the limits in front of any list of refusals
+-- the limits before any list of refusals
 module _ (k : ℕ) (s : List ℕ) (rs : List Refusal) (v : ℕ) where
   abbrev behind : Outcome
   behind = outcome (limits k (length s) ++ rs) v

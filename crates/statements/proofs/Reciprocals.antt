@@ -1,4 +1,4 @@
--- The answer of the reciprocal: the limits of n and X in front of any list of refusals, the two words that are read, and the whole call.
+-- The answer of the reciprocal: the limits of n and X before any list of refusals, the two words that are read, and the whole call.
 -- Assumes nothing.
 use mathlib.Core.Path.{_≡_, sym, _∙_, ap}
 use mathlib.Core.Logic.{_↔_, _⊎_, ⊎-elim}
@@ -30,7 +30,7 @@ use Rattle.statements.specs.Terms.{IsPrecision, IsLongEnough, IsRightAt,
 use Rattle.statements.proofs.Iff.{joined, same, both, under, either, row3, row4, row5, row6, is-count, no-count, is-normalised, not-normalised, wrong-word, no-wrong-word, read-wrong, read-right}
 use Rattle.statements.proofs.Numbers.{alone, refuses-1, refuses-2, kept-answer, later-number}
 
--- the limits of n and X in front of any list of refusals
+-- the limits of n and X before any list of refusals
 module _ (k n X : ℕ) (rs : List Refusal) (v : ℕ) where
   abbrev behind : Outcome
   behind = outcome (fractionRefusal k n ∷ operandRefusal n X ∷ rs) v
