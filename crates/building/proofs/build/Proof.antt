@@ -25,6 +25,18 @@ use Rattle.building.proofs.build.Tie as tie
 abbrev leaves : ℕ → List ℕ → Outcome → List ℕ
 leaves k s o = cond (eqb (o .number) 0) (builtOver (plain k) s) s
 
+refusal-number-requires : tie.Need-refusal-number-requires
+refusal-number-requires c κs = search needs
+
+returns : tie.Need-returns
+returns c =
+    let k = c .before .before .before .args .k .0 in
+    let s = c .before .before .before .args .image .now in
+    let p = c .before .refusal-number .ensures in
+    let h : refusalNumber k (length s) ≡ 0 → ⊥ = λ e. omega (arith, c .if1 .taken, p, e) in
+    let refused = limit-refuses k s [] 0 h in
+    (rw p (ap done (sym refused)), sym (ap (leaves k s) refused ∙ rw (ne-eqb (refusalNumber k (length s)) 0 h)))
+
 -- behind the test of the limits both are kept
 limit : (c : tie.Else1) → refusalNumber (c .before .before .before .args .k .0) (length (c .before .before .before .args .image .now)) ≡ 0
 limit c = sym (c .before .refusal-number .ensures) ∙ c .if1 .left
@@ -35,18 +47,6 @@ kept c = limit-kept (c .before .before .before .args .k .0) (c .before .before .
 -- so the table is that of k
 table : (c : tie.After-table) → c .table .result ≡ quotientsOf (c .before .before .before .before .before .args .k .0)
 table c = c .table .ensures ∙ kept (c .before .before) .numbers
-
-refusal-number-requires : tie.Need-refusal-number-requires
-refusal-number-requires c κs = search needs
-
-returns : tie.Need-returns
-returns c =
-    let k = c .before .before .before .args .k .0 in
-    let s = c .before .before .before .args .image .now in
-    let p = c .before .refusal-number .ensures in
-    let h : refusalNumber k (length s) ≡ 0 → ⊥ = λ e. c .if1 .taken (p ∙ e) in
-    let refused = limit-refuses k s [] 0 h in
-    (rw p (ap done (sym refused)), sym (ap (leaves k s) refused ∙ rw (ne-eqb (refusalNumber k (length s)) 0 h)))
 
 table-requires : tie.Need-table-requires
 table-requires c κs = search needs

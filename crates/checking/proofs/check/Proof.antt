@@ -12,10 +12,13 @@ use borrow.Author.Tests.{lt-ltb, le-ltb}
 use Rattle.nodes.specs.Inner.{quotientsOf}
 use Rattle.nodes.specs.declared.Quotients.{Quotients}
 use Rattle.nodes.proofs.Nodes.{decode-most, numerator-whole, word-judged}
+use Rattle.answers.specs.Refusal.{Refusal, outcome}
 use Rattle.answers.specs.Answer.{done}
+use Rattle.answers.proofs.Order.{applied, passed}
 use Rattle.layout.specs.Layout.{firstWrong}
 use Rattle.layout.specs.Refusals.{imageRefusal}
 use Rattle.image.specs.Image.{plain}
+use Rattle.image.specs.Calls.{checkOutcome}
 use Rattle.image.specs.Inner.{refusalNumber, ownBytes, layoutOf}
 use Rattle.image.proofs.Limits.{ImageKept, limit-refuses, limit-passes, limit-kept}
 use Rattle.image.proofs.OwnBytes.{own-wrong}
@@ -36,7 +39,13 @@ limit c = sym (c .before .refusal-number .ensures) ∙ c .if1 .left
 kept : (c : tie.Else1) → ImageKept (k c) (s c)
 kept c = limit-kept (k c) (s c) (limit c)
 
--- so the table is that of k
+-- so the refusal for a wrong word decides, and the table is that of k
+abbrev refusal : tie.Else1 → Refusal
+refusal c = imageRefusal (plain (k c)) (s c)
+
+decides : (c : tie.Else1) → checkOutcome (k c) (s c) ≡ outcome (refusal c ∷ []) 0
+decides c = limit-passes (k c) (s c) (refusal c ∷ []) 0 (limit c)
+
 table : (c : tie.After-table) → c .table .result ≡ quotientsOf (k (c .before))
 table c = c .table .ensures ∙ kept (c .before) .numbers
 
@@ -94,22 +103,22 @@ counted c = ap (λ (t : Quotients). t .count) (table c)
 cast-t9 : tie.Need-cast-t9
 cast-t9 c = search needs
 
-returns-2 : tie.Need-returns-2
-returns-2 c =
-    let place = c .before .before in
-    let at = place .before .before .before in
-    let less : firstWrong (plain (k at)) (s at) < 2 ^ k at = omega (arith, found place, counted (place .before .before), c .if2 .taken) in
-    rw (found place)
-    (ap done
-    (sym (limit-passes (k at) (s at) (imageRefusal (plain (k at)) (s at) ∷ []) 0 (limit at) ∙ rw (lt-ltb (firstWrong (plain (k at)) (s at)) (2 ^ k at) less))))
-
+-- no word is wrong
 returns-3 : tie.Need-returns-3
 returns-3 c =
     let place = c .before .before in
     let at = place .before .before .before in
     let none : 2 ^ k at ≤ firstWrong (plain (k at)) (s at) = omega (arith, found place, counted (place .before .before), c .if2 .left) in
-    ap done
-    (sym (limit-passes (k at) (s at) (imageRefusal (plain (k at)) (s at) ∷ []) 0 (limit at) ∙ rw (le-ltb (firstWrong (plain (k at)) (s at)) (2 ^ k at) none)))
+    ap done (sym (decides at ∙ passed (refusal at) [] 0 (le-ltb (firstWrong (plain (k at)) (s at)) (2 ^ k at) none)))
+
+-- the lowest wrong word is the place
+returns-2 : tie.Need-returns-2
+returns-2 c =
+    let place = c .before .before in
+    let at = place .before .before .before in
+    let less : firstWrong (plain (k at)) (s at) < 2 ^ k at = omega (arith, found place, counted (place .before .before), c .if2 .taken) in
+    ap (λ (n : ℕ). done (record { number = 6; place = n; value = 0 })) (found place)
+    ∙ ap done (sym (decides at ∙ applied (refusal at) [] 0 (lt-ltb (firstWrong (plain (k at)) (s at)) (2 ^ k at) less)))
 
 pub check-spec : {M : Type 1} → statement M
 check-spec =

@@ -54,7 +54,7 @@ both c = fieldRead (s c) (j c * start c .args .table .width) (2 * start c .args 
 reads : (c : tie.After-field Inv-loop μ-loop) → c .field .result ≡ both (c .before)
 reads c =
     let at = c .before in
-    c .field .ensures .0 ∙ ap (λ (b : ℕ). fieldRead (s at) b (2 * start at .args .table .width)) (at .before .loop .inv .3)
+    omega (arith, c .field .ensures .0, ap (λ (b : ℕ). fieldRead (s at) b (2 * start at .args .table .width)) (at .before .loop .inv .3))
 
 -- the bits before it are far below 2^64
 bits-few : (c : Turn) → c .before .loop .bit ≤ 4294967295 * 28

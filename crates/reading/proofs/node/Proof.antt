@@ -85,9 +85,12 @@ word c =
 value : (c : tie.After-decoded) → c .decoded .result .0 ≡ decodeUnder (leadingOne (k (place (c .before)))) (j (place (c .before))) (wordOf (k (place (c .before))) (s (place (c .before))) (j (place (c .before))))
 value c =
     let at = place (c .before) in
-    c .decoded .ensures
-    ∙ ap (λ (t : Quotients). decodeUnder (t .lead) (j at) (c .before .word .result)) (table (c .before .before .before .before .before))
-    ∙ ap (decodeUnder (leadingOne (k at)) (j at)) (word (c .before))
+    omega (
+      arith,
+      c .decoded .ensures,
+      ap (λ (t : Quotients). decodeUnder (t .lead) (j at) (c .before .word .result)) (table (c .before .before .before .before .before)),
+      ap (decodeUnder (leadingOne (k at)) (j at)) (word (c .before)),
+    )
 
 -- it has its place in 32 bits
 value-fits : (c : tie.After-decoded) → c .decoded .result .0 < 2 ^ 32
