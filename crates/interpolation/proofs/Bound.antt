@@ -83,8 +83,8 @@ rounded-up a b k units steps =
 
 -- at two table and three input guard bits: R of every k
 module _ (k n X : ℕ) (enough : 2 * k + 3 ≤ n) (least : 2 ^ n ≤ X) (below : X < 2 ^ (n + 1)) where
-  pub reciprocal-low : 2 ^ (n + 2 * k + 1) < reciprocal k n X * X + X
-  reciprocal-low = operand-low 2 3 k (rounded-up 2 3 k (omega arith) (omega arith)) n X enough least below
-
   pub reciprocal-high : reciprocal k n X * X < 2 ^ (n + 2 * k + 1) + X
   reciprocal-high = operand-high 2 3 k (rounded-up 2 3 k (omega arith) (omega arith)) n X enough least below
+
+  pub reciprocal-low : 2 ^ (n + 2 * k + 1) < reciprocal k n X * X + X
+  reciprocal-low = operand-low 2 3 k (rounded-up 2 3 k (omega arith) (omega arith)) n X enough least below

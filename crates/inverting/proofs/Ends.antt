@@ -1,6 +1,6 @@
 -- The answer by both words of a piece is that of the buffer; and what one number stands for.
 -- Assumes nothing.
-use mathlib.Core.Path.{_≡_, refl, sym, ap₂, _∙_}
+use mathlib.Core.Path.{_≡_, sym, ap, ap₂, _∙_}
 use mathlib.Core.Bool.{Bool, true, false, cond, not}
 use mathlib.Core.List.{List}
 use Prim.Native.Nat.{ℕ, _+_, _-_, _*_, _/_, _^_, _≤_, _<_}
@@ -32,8 +32,8 @@ word-above k window few h = shr-lt (wordWidth k) (wordWidth k) (shr-lt (wordWidt
 pub code-served : (code : ℕ) → code < 2 ^ 32 → outcomeOf code ≡ served code
 code-served code h = rw (lt-ltb code (2 ^ 32) h)
 
-pub code-wrong : (code : ℕ) → 2 ^ 32 ≤ code → outcomeOf code ≡ wrongAt (code - 2 ^ 32)
-code-wrong code h = rw (le-ltb code (2 ^ 32) h)
+pub code-wrong : (code j : ℕ) → code ≡ 2 ^ 32 + j → outcomeOf code ≡ wrongAt j
+code-wrong code j h = rw (le-ltb code (2 ^ 32) (omega arith)) (ap wrongAt {x = code - 2 ^ 32} (omega arith))
 
 module _ (k : ℕ) (s : List ℕ) (t : ℕ) (kept : ImageKept k s) (least : 2 ^ (2 * k + 3) ≤ t) (most : t < 2 ^ (2 * k + 4)) (bytes : Bytes s) where
   pub cut-below : nodeNumber k t < 2 ^ k

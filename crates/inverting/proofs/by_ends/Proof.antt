@@ -2,7 +2,7 @@
 -- between them.
 -- Assumes nothing.
 use mathlib.Core.Path.{_≡_, sym, ap, ap₂, _∙_}
-use mathlib.Core.Bool.{true, false, not}
+use mathlib.Core.Bool.{Bool, true, false}
 use Prim.Native.Nat.{ℕ, _+_, _-_, _*_, _/_, _%_, _^_, _≤_, _<_}
 use native.Mathlib.Nat.{mod-lt, mul-le-mul-right}
 use native.Mathlib.Omega.{arith}
@@ -12,7 +12,7 @@ use borrow.Author.Tests.{not-true, not-false}
 use Rattle.precision.specs.Precision.{wordWidth}
 use Rattle.precision.proofs.Range.{range-in}
 use Rattle.quotient.specs.Inner.{numeratorBits, roundsUp}
-use Rattle.nodes.specs.Nodes.{numerator, leadingOne, node, decodeUnder}
+use Rattle.nodes.specs.Nodes.{leadingOne, node, decodeUnder}
 use Rattle.nodes.specs.Inner.{quotientsOf}
 use Rattle.nodes.specs.declared.Quotients.{Quotients}
 use Rattle.nodes.proofs.Nodes.{decode-most, numerator-whole, passed-is-node}
@@ -20,7 +20,7 @@ use Rattle.nodes.proofs.Numbers.{own-numbers}
 use Rattle.answers.specs.Refusal.{served}
 use Rattle.interpolation.specs.Algorithm.{nodeNumber, productSum, chopped}
 use Rattle.interpolation.proofs.Cut.{cut-number-below, cut-fraction-below, cut-node-most, cut-node-falls, product-most, chopped-most}
-use Rattle.inverting.specs.Inner.{bothIn, lowerEnd, upperEnd, passes, wrongAt}
+use Rattle.inverting.specs.Inner.{bothIn, lowerEnd, upperEnd, passes}
 use Rattle.inverting.proofs.Ends.{word-above, code-served, code-wrong}
 use Rattle.inverting.proofs.by_ends.Statement.{statement}
 use Rattle.inverting.proofs.by_ends.Tie as tie
@@ -70,9 +70,14 @@ stands-for-fits c i word l =
     let top : 2 * k c + 3 ≤ 27 = omega (arith, c .before .pre .high) in
     omega (arith, decode-most (k c) i word l, pow-mono top)
 
--- all of the numerator counts
-whole : (c : tie.After-table) (i value : ℕ) → roundsUp (numeratorBits (numerator (k c))) i value ≡ roundsUp (numerator (k c)) i value
-whole c i value = ap (λ (M : ℕ). roundsUp M i value) (numerator-whole (k c) (c .before .pre .high))
+-- the test by the numbers of the table is that of the precision, of whose numerator all bits count
+abbrev tested : tie.After-table → ℕ → ℕ → Bool
+tested c i value = roundsUp (numeratorBits (c .table .result .numerator)) (c .table .result .first + i) value
+
+is-tested : (c : tie.After-table) (i value : ℕ) → tested c i value ≡ passes (k c) i value
+is-tested c i value =
+    ap (λ (q : Quotients). roundsUp (numeratorBits (q .numerator)) (q .first + i) value) (table c)
+    ∙ ap (λ (M : ℕ). roundsUp M (2 ^ k c + i) value) (numerator-whole (k c) (c .before .pre .high))
 
 -- both words, and each of them
 is-both : (c : tie.After-high) → c .high .result ≡ both (c .before)
@@ -103,10 +108,8 @@ lower-test : (c : tie.After-rounds-up) → c .rounds-up .result ≡ passes (k (a
 lower-test c =
     let node = c .before .before in
     let at = at1 node in
-    c .rounds-up .ensures
-    ∙ ap (λ (q : Quotients). roundsUp (numeratorBits (q .numerator)) (q .first + number at) (node .decoded .result .0)) (table at)
-    ∙ whole at (2 ^ k at + number at) (node .decoded .result .0)
-    ∙ ap₂ (λ (i c : ℕ). roundsUp (numerator (k at)) (2 ^ k at + i) c) (is-number at) (lower node)
+    let told : c .rounds-up .result ≡ tested at (number at) (node .decoded .result .0) = c .rounds-up .ensures in
+    told ∙ is-tested at (number at) (node .decoded .result .0) ∙ ap₂ (passes (k at)) (is-number at) (lower node)
 
 -- behind that test
 abbrev first-node : tie.Else1 → tie.After-decoded
@@ -138,10 +141,8 @@ upper-test : (c : tie.After-rounds-up2) → c .rounds-up2 .result ≡ passes (k 
 upper-test c =
     let node = c .before .before in
     let at = at3 node in
-    c .rounds-up2 .ensures
-    ∙ ap (λ (q : Quotients). roundsUp (numeratorBits (q .numerator)) (q .first + (number at + 1)) (node .decoded2 .result .0)) (table at)
-    ∙ whole at (2 ^ k at + (number at + 1)) (node .decoded2 .result .0)
-    ∙ ap₂ (λ (i c : ℕ). roundsUp (numerator (k at)) (2 ^ k at + (i + 1)) c) (is-number at) (upper node)
+    let told : c .rounds-up2 .result ≡ tested at (number at + 1) (node .decoded2 .result .0) = c .rounds-up2 .ensures in
+    told ∙ is-tested at (number at + 1) (node .decoded2 .result .0) ∙ ap₂ (λ (i c : ℕ). passes (k at) (i + 1) c) (is-number at) (upper node)
 
 -- behind both tests the ends are the nodes
 abbrev second-node : tie.Else2 → tie.After-decoded2
@@ -225,10 +226,9 @@ add-result c = search needs
 returns : tie.Need-returns
 returns c =
     let at = at1 (c .before .before .before) in
-    let same : 4294967296 + number at - 2 ^ 32 ≡ j at = omega (arith, is-number at) in
     let fails : passes (k at) (j at) (lowerEnd (k at) (both at) (t at)) ≡ false =
     sym (lower-test (c .before)) ∙ not-true (c .before .rounds-up .result) (c .if1 .taken) in
-    code-wrong (4294967296 + number at) (omega arith) ∙ ap wrongAt same ∙ rw fails
+    rw fails (code-wrong (4294967296 + number at) (j at) (omega (arith, is-number at)))
 
 add-decoded : tie.Need-add-decoded
 add-decoded c = let at = at2 c in omega (arith, is-number at, below at, few at)
@@ -263,10 +263,9 @@ returns-2 : tie.Need-returns-2
 returns-2 c =
     let node = c .before .before .before in
     let at = at3 node in
-    let same : 4294967297 + number at - 2 ^ 32 ≡ j at + 1 = omega (arith, is-number at) in
     let fails : passes (k at) (j at + 1) (upperEnd (k at) (both at) (t at)) ≡ false =
     sym (upper-test (c .before)) ∙ not-true (c .before .rounds-up2 .result) (c .if2 .taken) in
-    code-wrong (4294967297 + number at) (omega arith) ∙ ap wrongAt same ∙ rw (lower-passes (node .before .before), fails)
+    rw (lower-passes (node .before .before), fails) (code-wrong (4294967297 + number at) (j at + 1) (omega (arith, is-number at)))
 
 add-fraction-bits : tie.Need-add-fraction-bits
 add-fraction-bits c = omega (arith, at4 c .before .pre .high)

@@ -40,8 +40,9 @@ high-requires c κs = search needs
 returns : tie.Need-returns
 returns c =
     let a = c .before .before .before .before .before .args in
-    c .high .ensures
-    ∙ ap (λ (F : ℕ). sumOver F (a .lower .0) (a .upper .0) (a .f) / 2 ^ a .chopped-bits) (width (c .before .before .before .before))
+    let over : ℕ → ℕ = λ F. sumOver F (a .lower .0) (a .upper .0) (a .f) / 2 ^ a .chopped-bits in
+    let given : c .high .result ≡ over (c .before .before .before .before .power .result) = c .high .ensures in
+    given ∙ ap over (width (c .before .before .before .before))
 
 pub interpolated-spec : {M : Type 1} → statement M
 interpolated-spec =

@@ -74,8 +74,9 @@ reads c =
     let at = c .before .before in
     let own = ownBytes (k at) (s at) in
     let narrow : 2 * wordWidth (k at) ≤ 57 = omega (arith, start at .pre .high) in
+    let read : c .window .result ≡ windowAt (c .before .own-bytes .result .now) (number at * width at) = c .window .ensures in
     ap (bothIn (k at))
-    (c .window .ensures
+    (read
     ∙ ap (λ (f : List ℕ). windowAt f (number at * width at)) (c .before .own-bytes .ensures .0)
     ∙ ap (λ (i : ℕ). windowAt own (i * width at)) (is-number at)
     ∙ ap (λ (w : ℕ). windowAt own (nodeNumber (k at) (t at) * w)) (is-width at))
@@ -141,7 +142,7 @@ returns c =
 returns-2 : tie.Need-returns-2
 returns-2 c =
     let code = c .before .by-precision .result in
-    ap reciprocalGiven (sym (code-wrong code (omega (arith, c .if1 .left))) ∙ answers (c .before))
+    ap reciprocalGiven (sym (code-wrong code (code - 2 ^ 32) (omega (arith, c .if1 .left))) ∙ answers (c .before))
 
 pub of-cut-spec : {M : Type 1} → statement M
 of-cut-spec =

@@ -6,85 +6,98 @@ use Prim.Native.Nat.{ℕ}
 use native.Mathlib.Omega.{arith}
 use lib.ListN.{length}
 use borrow.Author.Needs.{needs}
+use Rattle.answers.specs.Refusal.{Refusal}
 use Rattle.answers.specs.Answer.{reciprocalGiven}
+use Rattle.answers.proofs.Earlier.{limited}
 use Rattle.image.specs.Inner.{refusalNumber}
-use Rattle.image.proofs.Limits.{ImageKept, limit-refuses, limit-passes, limit-kept}
+use Rattle.image.proofs.Limits.{limit-refuses, limit-passes, limit-kept}
 use Rattle.operand.specs.Operand.{cutOperand}
 use Rattle.operand.specs.Refusals.{fractionRefusal, operandRefusal}
 use Rattle.operand.specs.Inner.{operandNumber}
 use Rattle.operand.proofs.Laws.{cut-normalised}
-use Rattle.operand.proofs.Limits.{OperandKept, operand-refuses, operand-passes, operand-kept}
+use Rattle.operand.proofs.Limits.{operand-refuses, operand-passes, operand-kept}
 use Rattle.interpolation.specs.Reciprocal.{readReciprocal}
-use Rattle.interpolation.specs.Calls.{cutRefusals, cutOutcome}
+use Rattle.interpolation.specs.Calls.{cutRefusals, cutOutcome, reciprocalOutcome}
 use Rattle.inverting.specs.Inner.{IsCut}
 use Rattle.inverting.proofs.reciprocal.Statement.{statement}
 use Rattle.inverting.proofs.reciprocal.Tie as tie
 
--- behind the first test k and the image keep their limits
-limit : (c : tie.Else1) → refusalNumber (c .before .before .before .args .k .0) (length (c .before .before .before .args .image .now)) ≡ 0
-limit c = omega (arith, c .before .refusal-number .ensures, c .if1 .left)
+-- the answer, by the two numbers that the code tests
+module _ (k : ℕ) (s : List ℕ) (n X : ℕ) where
+  abbrev R : ℕ
+  R = readReciprocal k s (cutOperand k n X)
 
--- behind the second n and X keep theirs
-limit-2 : (c : tie.Else2) → operandNumber (c .before .before .before .before .before .args .k .0) (c .before .before .before .before .before .args .n) (c .before .before .before .before .before .args .x) ≡ 0
-limit-2 c = omega (arith, c .before .refusal-number2 .ensures .0, c .if2 .left)
+  abbrev words : List Refusal
+  words = cutRefusals k s (cutOperand k n X)
 
--- an operand that keeps them is cut to one of 2k + 3 fraction bits
-cut-is : (k : ℕ) (s : List ℕ) (n X : ℕ) → ImageKept k s → OperandKept k n X → IsCut k s (cutOperand k n X)
-cut-is k s n X a b =
-    let r = cut-normalised k n X (b .enough) (b .least) (b .below) in
-    record { low = a .low; high = a .high; long = a .long; least = r .0; most = r .1 }
+  abbrev later : List Refusal
+  later = fractionRefusal k n ∷ operandRefusal n X ∷ words
 
-refusal-number-requires : tie.Need-refusal-number-requires
-refusal-number-requires c κs = search needs
+  limit-given : (number : ℕ) → number ≡ refusalNumber k (length s) → (number ≡ 0 → ⊥) → limited number ≡ reciprocalOutcome k s n X
+  limit-given number e broken = ap limited e ∙ sym (limit-refuses k s later R (λ none. broken (e ∙ none)))
+
+  -- behind the first test k and the image keep their limits
+  module _ (kept : refusalNumber k (length s) ≡ 0) where
+    operand-given : (number : ℕ) → number ≡ operandNumber k n X → (number ≡ 0 → ⊥) → limited number ≡ reciprocalOutcome k s n X
+    operand-given number e broken =
+        ap limited e ∙ sym (limit-passes k s later R kept ∙ operand-refuses k n X words R (λ none. broken (e ∙ none)))
+
+    -- behind the second n and X keep theirs, and t is an operand of 2k + 3 fraction bits
+    module _ (kept-too : operandNumber k n X ≡ 0) (t : ℕ) (cut : t ≡ cutOperand k n X) where
+      cut-given : cutOutcome k s t ≡ reciprocalOutcome k s n X
+      cut-given =
+          ap (cutOutcome k s) cut ∙ sym (limit-passes k s later R kept ∙ operand-passes k n X words R kept-too)
+
+      cut-is : IsCut k s t
+      cut-is =
+          let a = limit-kept k s kept in
+          let b = operand-kept k n X kept-too in
+          let r = cut-normalised k n X (b .enough) (b .least) (b .below) in
+          rw cut (record { low = a .low; high = a .high; long = a .long; least = r .0; most = r .1 })
 
 returns : tie.Need-returns
 returns c =
     let a = c .before .before .before .args in
-    let k = a .k .0 in
-    let s = a .image .now in
-    let p = c .before .refusal-number .ensures in
-    rw p
-    (ap reciprocalGiven
-    (sym (limit-refuses k s (fractionRefusal k (a .n) ∷ operandRefusal (a .n) (a .x) ∷ cutRefusals k s (cutOperand k (a .n) (a .x))) (readReciprocal k s (cutOperand k (a .n) (a .x)))
-    (λ e. omega (arith, c .if1 .taken, p, e)))))
+    let first = c .before .refusal-number in
+    ap reciprocalGiven (limit-given (a .k .0) (a .image .now) (a .n) (a .x) (first .result) (omega (arith, first .ensures)) (λ none. omega (arith, c .if1 .taken, none)))
+
+-- behind the first test
+returns-2 : tie.Need-returns-2
+returns-2 c =
+    let behind = c .before .before in
+    let a = behind .before .before .before .args in
+    let second = c .before .refusal-number2 in
+    ap reciprocalGiven
+    (operand-given (a .k .0) (a .image .now) (a .n) (a .x) (omega (arith, behind .before .refusal-number .ensures, behind .if1 .left))
+    (second .result) (omega (arith, second .ensures)) (λ none. omega (arith, c .if2 .taken, none)))
+
+-- behind both
+returns-3 : tie.Need-returns-3
+returns-3 c =
+    let behind-both = c .before .before in
+    let behind = behind-both .before .before in
+    let a = behind .before .before .before .args in
+    c .of-cut .ensures
+    ∙ ap reciprocalGiven
+    (cut-given (a .k .0) (a .image .now) (a .n) (a .x) (omega (arith, behind .before .refusal-number .ensures, behind .if1 .left))
+    (omega (arith, behind-both .before .refusal-number2 .ensures, behind-both .if2 .left)) (c .before .cut .result) (c .before .cut .ensures))
+
+refusal-number-requires : tie.Need-refusal-number-requires
+refusal-number-requires c κs = search needs
 
 refusal-number-requires-2 : tie.Need-refusal-number-requires-2
 refusal-number-requires-2 c κs = search needs
-
-returns-2 : tie.Need-returns-2
-returns-2 c =
-    let a = c .before .before .before .before .before .args in
-    let k = a .k .0 in
-    let s = a .image .now in
-    let t = cutOperand k (a .n) (a .x) in
-    let p = c .before .refusal-number2 .ensures .0 in
-    rw p
-    (ap reciprocalGiven
-    (sym (limit-passes k s (fractionRefusal k (a .n) ∷ operandRefusal (a .n) (a .x) ∷ cutRefusals k s t) (readReciprocal k s t) (limit (c .before .before))
-    ∙ operand-refuses k (a .n) (a .x) (cutRefusals k s t) (readReciprocal k s t) (λ e. omega (arith, c .if2 .taken, p, e)))))
 
 cut-requires : tie.Need-cut-requires
 cut-requires c κs = search needs
 
 of-cut-requires : tie.Need-of-cut-requires
 of-cut-requires c κs =
-    let a = c .before .before .before .before .before .before .args in
-    let k = a .k .0 in
-    let s = a .image .now in
-    rw (c .cut .ensures)
-    (cut-is k s (a .n) (a .x) (limit-kept k s (limit (c .before .before .before))) (operand-kept k (a .n) (a .x) (limit-2 (c .before))))
-
-returns-3 : tie.Need-returns-3
-returns-3 c =
-    let a = c .before .before .before .before .before .before .before .args in
-    let k = a .k .0 in
-    let s = a .image .now in
-    let t = cutOperand k (a .n) (a .x) in
-    c .of-cut .ensures
-    ∙ ap (λ (x : ℕ). reciprocalGiven (cutOutcome k s x)) (c .before .cut .ensures)
-    ∙ ap reciprocalGiven
-    (sym (limit-passes k s (fractionRefusal k (a .n) ∷ operandRefusal (a .n) (a .x) ∷ cutRefusals k s t) (readReciprocal k s t) (limit (c .before .before .before .before))
-    ∙ operand-passes k (a .n) (a .x) (cutRefusals k s t) (readReciprocal k s t) (limit-2 (c .before .before))))
+    let behind-both = c .before in
+    let behind = behind-both .before .before in
+    let a = behind .before .before .before .args in
+    cut-is (a .k .0) (a .image .now) (a .n) (a .x) (omega (arith, behind .before .refusal-number .ensures, behind .if1 .left))
+    (omega (arith, behind-both .before .refusal-number2 .ensures, behind-both .if2 .left)) (c .cut .result) (c .cut .ensures)
 
 pub reciprocal-spec : {M : Type 1} → statement M
 reciprocal-spec =
