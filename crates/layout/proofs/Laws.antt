@@ -9,7 +9,8 @@ use lib.Dec.{eqb, lit<}
 use lib.ListN.{length, take, drop, length-take, length-append, length-drop}
 use lib.Seq.{take-at, drop-at}
 use borrow.Author.Tests.{eq-eqb, eqb-true, not-false}
-use Rattle.bools.proofs.Lowest.{lowest-agrees}
+use Rattle.bools.proofs.Bools.{clash}
+use Rattle.bools.proofs.Lowest.{lowest-passes, lowest-before, lowest-none, lowest-agrees}
 use Rattle.packing.specs.Packing.{Bytes, firstByte, lastByte, spanBytes, bitAt, bitOfWord}
 use Rattle.packing.proofs.Image.{length-packedBytes, packed-word, word-of-front, words-front}
 use Rattle.packing.proofs.Words.{word-within, word-take, span-within}
@@ -40,7 +41,7 @@ module _ (t : Layout) where
 
   -- a buffer that was built keeps its length, starts with the image, and ends as it did
   pub built-length : (s : List ℕ) → lengthOf t ≤ length s → length (builtOver t s) ≡ length s
-  built-length s h = length-append (imageOf t) (drop (lengthOf t) s) ∙ omega (arith, image-length, length-drop (lengthOf t) s)
+  built-length s h = omega (arith, length-append (imageOf t) (drop (lengthOf t) s), image-length, length-drop (lengthOf t) s)
 
   pub built-front : (s : List ℕ) → take (lengthOf t) (builtOver t s) ≡ imageOf t
   built-front s = take-at (imageOf t) (drop (lengthOf t) s) (lengthOf t) image-length
@@ -51,6 +52,16 @@ module _ (t : Layout) where
   -- a word ends before the image does
   pub word-inside : (j : ℕ) → j < t .count → j * t .width + t .width ≤ 8 * lengthOf t
   word-inside j h = omega (arith, word-within (t .width) (t .count) j h)
+
+  -- where all words are right, the lowest wrong one is past the last; otherwise it is wrong, and those before it are right
+  pub all-right : (s : List ℕ) → ((j : ℕ) → j < t .count → wordIn t s j ≡ t .word j) → firstWrong t s ≡ t .count
+  all-right s r = lowest-none (isWrong t s) (t .count) (λ j h. right-not-wrong t s j (r j h))
+
+  pub wrong-there : (s : List ℕ) → firstWrong t s < t .count → wordIn t s (firstWrong t s) ≡ t .word (firstWrong t s) → ⊥
+  wrong-there s h r = clash (lowest-passes (isWrong t s) (t .count) h) (right-not-wrong t s (firstWrong t s) r)
+
+  pub right-before : (s : List ℕ) (j : ℕ) → j < firstWrong t s → wordIn t s j ≡ t .word j
+  right-before s j h = not-wrong t s j (lowest-before (isWrong t s) (t .count) j h)
 
   -- buffers whose words agree have the same lowest wrong word
   pub wrong-agrees : (s s' : List ℕ) → ((j : ℕ) → j < t .count → wordIn t s j ≡ wordIn t s' j) → firstWrong t s ≡ firstWrong t s'

@@ -12,14 +12,13 @@ use Rattle.precision.specs.Precision.{imageLength}
 use Rattle.nodes.specs.Nodes.{node}
 use Rattle.packing.specs.Packing.{bitAt, bitOfWord}
 use Rattle.answers.specs.Refusal.{Outcome, served}
-use Rattle.layout.specs.Layout.{builtOver, isWrong, firstWrong}
+use Rattle.layout.specs.Layout.{builtOver, firstWrong}
 use Rattle.layout.specs.Refusals.{imageRefusal, wordRefusal}
 use Rattle.layout.proofs.Laws as layouts
 use Rattle.image.specs.Image.{plain, image, nodeOf}
 use Rattle.image.specs.Refusals.{nodeRefusal}
 use Rattle.image.specs.Calls.{buildOutcome, buildLeaves, checkOutcome, nodeOutcome}
 use Rattle.image.proofs.Laws.{plain-fits}
-use Rattle.bools.proofs.Lowest.{lowest-none}
 use Rattle.image.proofs.Judging.{node-served}
 use Rattle.operand.specs.Operand.{cutOperand}
 use Rattle.interpolation.specs.Algorithm.{nodeNumber}
@@ -79,9 +78,7 @@ module _ (k : ℕ) (s : List ℕ) (p : IsPrecision k) (l : IsLongEnough k s) whe
   pub built-checks : checkOutcome k (buildLeaves k s) ≡ served 0
   built-checks =
       kept-answer k (buildLeaves k s) (imageRefusal (plain k) (buildLeaves k s) ∷ []) 0 p still-long
-      ∙ rw
-      (le-ltb (firstWrong (plain k) (buildLeaves k s)) (2 ^ k)
-      (le-of-eq (sym (lowest-none (isWrong (plain k) (buildLeaves k s)) (2 ^ k) (λ j h. layouts.right-not-wrong (plain k) (buildLeaves k s) j (built-words j h))))))
+      ∙ rw (le-ltb (firstWrong (plain k) (buildLeaves k s)) (2 ^ k) (le-of-eq (sym (layouts.all-right (plain k) (buildLeaves k s) built-words))))
 
 -- bit b of word j of the image
 pub image-bits : (k j b : ℕ) → j < 2 ^ k → b < 2 * k + 2 → bitAt (image k) (j * (2 * k + 2) + b) ≡ bitOfWord (2 * k + 2) (node k j % 2 ^ (2 * k + 2)) b

@@ -13,9 +13,8 @@ use Rattle.bools.proofs.Bools.{clash}
 use Rattle.precision.specs.Precision.{inRange, wordCount}
 use Rattle.precision.proofs.Range.{in-range, range-in}
 use Rattle.layout.specs.Layout.{isWrong, firstWrong}
-use Rattle.layout.proofs.Laws.{not-wrong, right-not-wrong}
+use Rattle.layout.proofs.Laws.{not-wrong, right-not-wrong, all-right, wrong-there, right-before}
 use Rattle.image.specs.Image.{plain}
-use Rattle.bools.proofs.Lowest.{lowest-passes, lowest-before, lowest-none}
 use Rattle.operand.specs.Operand.{isFractionCount, isNormalised}
 use Rattle.operand.proofs.Laws.{count-in, in-count, normalised-in, in-normalised}
 use Rattle.statements.specs.Terms.{IsPrecision, IsRightAt, IsFractionCount, IsNormalised}
@@ -141,12 +140,12 @@ some-wrong k s = (to, from)
     to : T (ltb (firstWrong (plain k) s) (wordCount k)) → (j : ℕ) × (j < 2 ^ k) × (IsRightAt k s j → ⊥)
     to t =
         let h = ltb→lt (firstWrong (plain k) s) (wordCount k) t in
-        (firstWrong (plain k) s, h, λ r. clash (lowest-passes (isWrong (plain k) s) (wordCount k) h) (right-not-wrong (plain k) s (firstWrong (plain k) s) r))
+        (firstWrong (plain k) s, h, wrong-there (plain k) s h)
 
     from : (j : ℕ) × (j < 2 ^ k) × (IsRightAt k s j → ⊥) → T (ltb (firstWrong (plain k) s) (wordCount k))
     from w =
         not-not (ltb (firstWrong (plain k) s) (wordCount k))
-        (λ t. w .2 (not-wrong (plain k) s (w .0) (lowest-before (isWrong (plain k) s) (wordCount k) (w .0) (omega (arith, w .1, nltb→le (firstWrong (plain k) s) (wordCount k) t)))))
+        (λ t. w .2 (right-before (plain k) s (w .0) (omega (arith, w .1, nltb→le (firstWrong (plain k) s) (wordCount k) t))))
       where
         not-not : (b : Bool) → (T (not b) → ⊥) → T b
         not-not true f = tt
@@ -156,9 +155,7 @@ pub none-wrong : (k : ℕ) (s : List ℕ) → T (not (ltb (firstWrong (plain k) 
 none-wrong k s = (to, from)
   where
     to : T (not (ltb (firstWrong (plain k) s) (wordCount k))) → (j : ℕ) → j < 2 ^ k → IsRightAt k s j
-    to t j h = not-wrong (plain k) s j (lowest-before (isWrong (plain k) s) (wordCount k) j (omega (arith, h, nltb→le (firstWrong (plain k) s) (wordCount k) t)))
+    to t j h = right-before (plain k) s j (omega (arith, h, nltb→le (firstWrong (plain k) s) (wordCount k) t))
 
     from : ((j : ℕ) → j < 2 ^ k → IsRightAt k s j) → T (not (ltb (firstWrong (plain k) s) (wordCount k)))
-    from f =
-        le→nltb (firstWrong (plain k) s) (wordCount k)
-        (omega (arith, lowest-none (isWrong (plain k) s) (wordCount k) (λ j h. right-not-wrong (plain k) s j (f j h))))
+    from f = le→nltb (firstWrong (plain k) s) (wordCount k) (omega (arith, all-right (plain k) s f))

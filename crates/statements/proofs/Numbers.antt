@@ -1,26 +1,25 @@
 -- The numbers of the calls: the limits of k and the buffer before any list of refusals, the check where a word is wrong, and the
 -- last refusals of reading a node.
 -- Assumes nothing.
-use mathlib.Core.Path.{_≡_, refl, sym, _∙_, ap}
+use mathlib.Core.Path.{_≡_, refl, _∙_, ap}
 use mathlib.Core.Logic.{_↔_}
-use mathlib.Core.Bool.{true, false, not, true≢false}
+use mathlib.Core.Bool.{not}
 use mathlib.Core.List.{List, [], _∷_, _++_}
 use Prim.Native.Nat.{ℕ, _^_, _≤_, _<_}
 use native.Mathlib.Nat.{le-of-lt}
 use lib.ListN.{length}
 use lib.Dec.{T, eqb}
 use borrow.Author.Tests.{lt-ltb}
-use Rattle.precision.specs.Precision.{imageLength, wordCount}
+use Rattle.precision.specs.Precision.{imageLength}
 use Rattle.answers.specs.Refusal.{Refusal, Outcome, outcome}
 use Rattle.answers.proofs.Order.{avoids, first, later}
-use Rattle.layout.specs.Layout.{isWrong, firstWrong}
+use Rattle.layout.specs.Layout.{firstWrong}
 use Rattle.layout.specs.Refusals.{lengthRefusal, imageRefusal, wordRefusal}
-use Rattle.layout.proofs.Laws.{not-wrong, right-not-wrong}
+use Rattle.layout.proofs.Laws.{wrong-there, right-before}
 use Rattle.image.specs.Image.{plain}
 use Rattle.image.specs.Refusals.{precisionRefusal, nodeRefusal, limits}
 use Rattle.image.specs.Calls.{checkOutcome, nodeRefusals}
 use Rattle.image.proofs.Limits.{limit-none, limit-passes}
-use Rattle.bools.proofs.Lowest.{lowest-passes, lowest-before}
 use Rattle.image.proofs.Judging.{node-refused}
 use Rattle.statements.specs.Terms.{IsPrecision, IsLongEnough, IsRightAt}
 use Rattle.statements.proofs.Iff.{joined, both, is-precision, no-precision, is-below, not-below, wrong-word, no-wrong-word, read-wrong, some-wrong}
@@ -62,10 +61,7 @@ module _ (k : ℕ) (s : List ℕ) where
   first-wrong p l j h f =
       let t = is-below (firstWrong (plain k) s) (2 ^ k) .0 (some-wrong k s .1 (j, h, f)) in
       rw (ap (λ (o : Outcome). o .place) (wrong-answer p l t))
-      (t, λ r. some-wrong-clash t r, λ i m. not-wrong (plain k) s i (lowest-before (isWrong (plain k) s) (wordCount k) i m))
-    where
-      some-wrong-clash : firstWrong (plain k) s < 2 ^ k → IsRightAt k s (firstWrong (plain k) s) → ⊥
-      some-wrong-clash t r = true≢false (sym (lowest-passes (isWrong (plain k) s) (wordCount k) t) ∙ right-not-wrong (plain k) s (firstWrong (plain k) s) r)
+      (t, wrong-there (plain k) s t, right-before (plain k) s)
 
 module _ (k : ℕ) (s : List ℕ) (j v : ℕ) where
   -- the two last refusals of reading a node

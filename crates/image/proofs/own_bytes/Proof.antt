@@ -15,6 +15,17 @@ use Rattle.image.proofs.OwnBytes.{own-taken}
 use Rattle.image.proofs.own_bytes.Statement.{statement}
 use Rattle.image.proofs.own_bytes.Tie as tie
 
+refusal-number-requires : tie.Need-refusal-number-requires
+refusal-number-requires c κs = search needs
+
+slice-aggregate-result : tie.Need-slice-aggregate-result
+slice-aggregate-result c = search needs
+
+returns : tie.Need-returns
+returns c =
+    let a = c .before .before .before .before .args in
+    (rw (ne-eqb (refusalNumber (a .k .0) (length (a .image .now))) 0 (λ e. omega (arith, c .before .if1 .taken, c .before .before .refusal-number .ensures, e))), (refl, refl))
+
 -- behind the test of the limits both are kept
 kept : (c : tie.Else1) → ImageKept (c .before .before .before .args .k .0) (c .before .before .before .args .image .now)
 kept c =
@@ -26,17 +37,6 @@ bytes : (c : tie.After-byte-count) → c .byte-count .result ≡ imageLength (c 
 bytes c =
     c .byte-count .ensures
     ∙ ap (λ (t : Quotients). byteCount (t .width) (t .count)) (c .before .table .ensures ∙ kept (c .before .before) .numbers)
-
-refusal-number-requires : tie.Need-refusal-number-requires
-refusal-number-requires c κs = search needs
-
-slice-aggregate-result : tie.Need-slice-aggregate-result
-slice-aggregate-result c = search needs
-
-returns : tie.Need-returns
-returns c =
-    let a = c .before .before .before .before .args in
-    (rw (ne-eqb (refusalNumber (a .k .0) (length (a .image .now))) 0 (λ e. omega (arith, c .before .if1 .taken, c .before .before .refusal-number .ensures, e))), (refl, refl))
 
 table-requires : tie.Need-table-requires
 table-requires c κs = search needs

@@ -1,6 +1,6 @@
 -- `image::refusal_number` meets its contract: the two limits, one after the other.
 -- Assumes nothing.
-use mathlib.Core.Path.{_≡_, ap, _∙_}
+use mathlib.Core.Path.{_≡_, refl, ap, _∙_}
 use mathlib.Core.Bool.{true}
 use Prim.Native.Nat.{_≤_}
 use native.Mathlib.Omega.{arith}
@@ -26,7 +26,7 @@ table-requires : tie.Need-table-requires
 table-requires c κs = search needs
 
 returns : tie.Need-returns
-returns c = rw (no-numbers (c .before .before .before .args .k .0) (c .before .before .table .ensures) (c .if1 .taken))
+returns c = rw (no-numbers (c .before .before .before .args .k .0) (c .before .before .table .ensures) (c .if1 .taken)) refl
 
 byte-count-requires : tie.Need-byte-count-requires
 byte-count-requires c κs = search needs
@@ -34,12 +34,12 @@ byte-count-requires c κs = search needs
 returns-2 : tie.Need-returns-2
 returns-2 c =
     let a = c .before .before .before .before .before .args in
-    rw (has (c .before .before) .0, lt-ltb (a .length) (imageLength (a .k .0)) (omega (arith, bytes (c .before), c .if2 .taken)))
+    rw (has (c .before .before) .0, lt-ltb (a .length) (imageLength (a .k .0)) (omega (arith, bytes (c .before), c .if2 .taken))) refl
 
 returns-3 : tie.Need-returns-3
 returns-3 c =
     let a = c .before .before .before .before .before .args in
-    rw (has (c .before .before) .0, le-ltb (a .length) (imageLength (a .k .0)) (omega (arith, bytes (c .before), c .if2 .left)))
+    rw (has (c .before .before) .0, le-ltb (a .length) (imageLength (a .k .0)) (omega (arith, bytes (c .before), c .if2 .left))) refl
 
 pub refusal-number-spec : {M : Type 1} → statement M
 refusal-number-spec =

@@ -6,6 +6,7 @@ use native.Mathlib.Nat.{one-mul, mod-eq-of-lt}
 use native.Mathlib.Omega.{arith}
 use lib.Pow.{pow-lt}
 use borrow.Author.Needs.{needs}
+use Rattle.bits.specs.Inner.{powerOr0}
 use Rattle.bits.proofs.Laws.{power-fits}
 use Rattle.precision.proofs.Range.{Counted, counted, no-words}
 use Rattle.nodes.proofs.Numbers.{one-by-one, own-numbers}
@@ -20,7 +21,7 @@ word-count-requires : tie.Need-word-count-requires
 word-count-requires c κs = search needs
 
 returns : tie.Need-returns
-returns c = rw (no-words (c .before .before .args .k .0) (sym (c .before .word-count .ensures) ∙ c .if1 .taken))
+returns c = rw (no-words (c .before .before .args .k .0) (omega (arith, c .before .word-count .ensures, c .if1 .taken)))
 
 mul-width : tie.Need-mul-width
 mul-width c = omega (arith, has (c .before) .small)
@@ -44,12 +45,12 @@ returns-2 : tie.Need-returns-2
 returns-2 c =
     let h = has (c .before .before .before) in
     let k = c .before .before .before .before .before .args .k .0 in
-    let top : 3 * k + 3 < 64 = omega (arith, h .small) in
+    let power : c .power .result ≡ powerOr0 (3 * k + 3) = c .power .ensures in
     let few : 2 * k + 2 < 32 = omega (arith, h .small) in
     one-by-one
     (h .words)
     refl
-    (c .power .ensures ∙ power-fits (3 * k + 3) top)
+    (power ∙ power-fits (3 * k + 3) (omega (arith, h .small)))
     (h .words)
     (ap (λ (x : ℕ). x % 2 ^ 32) (one-mul (2 ^ (2 * k + 2))) ∙ mod-eq-of-lt (pow-lt few))
     ∙ sym (own-numbers k (h .ranged))

@@ -1,6 +1,6 @@
 -- `nodes::value` meets its contract: each return answers the tests that led there.
 -- Assumes nothing.
-use mathlib.Core.Path.{_≡_, sym, ap, _∙_}
+use mathlib.Core.Path.{_≡_, sym, ap, ap₂, _∙_}
 use mathlib.Core.Bool.{true}
 use Prim.Native.Nat.{_+_, _^_, _≤_}
 use native.Mathlib.Omega.{arith}
@@ -27,9 +27,12 @@ returns c =
 has : (c : tie.Else1) → (inRange (c .before .before .before .args .k .0) ≡ true) × (c .before .before .before .args .k .0 ≤ 12) × (c .before .before .table .result ≡ quotientsOf (c .before .before .before .args .k .0))
 has c = has-numbers (c .before .before .before .args .k .0) (c .before .before .table .ensures) (omega (arith, c .if1 .left))
 
--- 2^k of them
+-- 2^k of them, and the first divisor is 2^k too
 counted : (c : tie.Else1) → c .before .before .table .result .count ≡ 2 ^ c .before .before .before .args .k .0
 counted c = ap (λ (t : Quotients). t .count) (has c .2)
+
+first : (c : tie.Else1) → c .before .before .table .result .first ≡ 2 ^ c .before .before .before .args .k .0
+first c = ap (λ (t : Quotients). t .first) (has c .2)
 
 returns-2 : tie.Need-returns-2
 returns-2 c =
@@ -39,8 +42,7 @@ returns-2 c =
 add-rounded-up : tie.Need-add-rounded-up
 add-rounded-up c =
     let at = c .before .before .before in
-    let first = ap (λ (t : Quotients). t .first) (has at .2) in
-    omega (arith, first, counted at, c .before .if2 .left, pow-mono (has at .1))
+    omega (arith, first at, counted at, c .before .if2 .left, pow-mono (has at .1))
 
 rounded-up-requires : tie.Need-rounded-up-requires
 rounded-up-requires c κs = search needs
@@ -50,7 +52,7 @@ returns-3 c =
     let at = c .before .before .before .before in
     let a = at .before .before .before .args in
     c .rounded-up .ensures
-    ∙ ap (λ (t : Quotients). roundedUp (t .numerator) (t .first + a .j)) (has at .2)
+    ∙ ap₂ roundedUp (ap (λ (t : Quotients). t .numerator) (has at .2)) (omega (arith, first at))
     ∙ sym (node-there (a .k .0) (has at .0) (a .j) (omega (arith, counted at, c .before .before .if2 .left)))
 
 pub value-spec : {M : Type 1} → statement M

@@ -1,9 +1,9 @@
 -- `packing::byte_count` meets its contract: the bits of two factors of 32 bits leave room for seven more.
 -- Assumes nothing.
+use mathlib.Core.Path.{refl}
 use Prim.Native.Nat.{_*_, _≤_}
 use native.Mathlib.Nat.{mul-le-mul}
 use native.Mathlib.Omega.{arith}
-use borrow.Author.Needs.{needs}
 use Rattle.packing.proofs.byte_count.Statement.{statement}
 use Rattle.packing.proofs.byte_count.Tie as tie
 
@@ -21,7 +21,7 @@ add-result : tie.Need-add-result
 add-result c = omega (arith, bits c)
 
 returns : tie.Need-returns
-returns c = search needs
+returns c = refl
 
 pub byte-count-spec : {M : Type 1} → statement M
 byte-count-spec = tie.close (tie.spec mul-result add-result returns)

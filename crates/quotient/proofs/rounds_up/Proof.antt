@@ -21,7 +21,7 @@ wrapping-sub-u64-requires c κs = search needs
 returns : tie.Need-returns
 returns c =
     let a = c .before .args in
-    wrapped-test (c .wrapping-sub-u64 .result) (a .value * a .divisor) (numeratorBits (a .numerator)) (a .divisor) (omega arith) (omega arith) (c .wrapping-sub-u64 .ensures)
+    wrapped-test (c .wrapping-sub-u64 .result) (a .value * a .divisor) (numeratorBits (a .numerator)) (a .divisor) (omega arith) (omega arith) (omega (arith, c .wrapping-sub-u64 .ensures))
 
 pub rounds-up-spec : {M : Type 1} → statement M
 rounds-up-spec = tie.close (tie.spec mul-product wrapping-sub-u64-requires returns)
