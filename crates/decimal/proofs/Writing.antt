@@ -9,7 +9,7 @@ use native.Mathlib.Numerals.{add-one}
 use native.Mathlib.Omega.{arith}
 use lib.ListN.{length, take, drop, set, length-append, length-drop, take-append-drop}
 use lib.Seq.{length-take-le, take-at, drop-append-add, drop-drop, set-split, paste, take-length, append-snoc}
-use borrow.Author.Tests.{le-leb, leb-true, not-true, not-false}
+use borrow.Author.Tests.{le-leb, lt-leb, leb-true, leb-false, not-true, not-false}
 use Rattle.decimal.specs.Text.{written, hasRoom, putInto, placeAfter, Wrote}
 
 module _ (s : List ℕ) (at : ℕ) (t : List ℕ) (fits : at + length t ≤ length s) where
@@ -55,25 +55,23 @@ pub paste-written : (s : List ℕ) (at : ℕ) (t : List ℕ) → paste s at t (l
 unfolding written
 paste-written s at t = rw take-length
 
--- what a test of room settles, where it failed and where it passed
+-- what a test of room says, where it passed and where it failed
 module _ (s : List ℕ) (at n : ℕ) {room : Bool} (e : room ≡ hasRoom s at n) where
-  none : not room ≡ true → hasRoom s at n ≡ false
-  none f = sym e ∙ not-true room f
-
-  some : not room ≡ false → hasRoom s at n ≡ true
-  some p = sym e ∙ not-false room p
-
   pub room-fits : not room ≡ false → at + n ≤ length s
-  room-fits p = leb-true (at + n) (length s) (some p)
+  room-fits p = leb-true (at + n) (length s) (sym e ∙ not-false room p)
 
-  -- a call that finds no room and changes nothing, and one that finds it and writes its text, keep the promise of total calls
-  pub put-none : (t : List ℕ) → not room ≡ true → (at ≡ placeAfter s at n t) × (s ≡ putInto s at n t)
-  put-none t f = rw (none f) (refl, refl)
+  pub room-lacks : not room ≡ true → length s < at + n
+  room-lacks f = leb-false (at + n) (length s) (sym e ∙ not-true room f)
 
-  pub put-some : {t : List ℕ} {r : ℕ} {o : List ℕ} → not room ≡ false → Wrote s at t r o → (r ≡ placeAfter s at n t) × (o ≡ putInto s at n t)
-  put-some p w = rw (some p) (w .place, w .bytes)
+-- a call that asks for room for n bytes keeps its promise where it finds none and changes nothing, and where it finds it and writes its text
+module _ (s : List ℕ) (at n : ℕ) where
+  pub put-none : (t : List ℕ) → length s < at + n → (at ≡ placeAfter s at n t) × (s ≡ putInto s at n t)
+  put-none t h = rw (lt-leb (at + n) (length s) h) (refl, refl)
 
--- such a call wrote its text where there is room
+  pub put-some : {t : List ℕ} {r : ℕ} {o : List ℕ} → at + n ≤ length s → Wrote s at t r o → (r ≡ placeAfter s at n t) × (o ≡ putInto s at n t)
+  put-some h w = rw (le-leb (at + n) (length s) h) (w .place, w .bytes)
+
+-- such a call wrote its text where it found room
 pub wrote-room : (s : List ℕ) (at n : ℕ) (t : List ℕ) {r : ℕ} {o : List ℕ} → at + n ≤ length s → r ≡ placeAfter s at n t → o ≡ putInto s at n t → Wrote s at t r o
 wrote-room s at n t h p b =
     record { place = rw (le-leb (at + n) (length s) h) at p; bytes = rw (le-leb (at + n) (length s) h) at b }

@@ -17,24 +17,27 @@ use Rattle.decimal.proofs.Laws.{reading-number, is-all, is-some, value-below}
 use Rattle.lines.specs.Lines.{lineFeed, body, lineReading}
 
 module _ (s : List ℕ) (most : ℕ) where
-  -- more bytes before the last
+  -- more bytes before the last, and another byte at the end
   pub read-long : most + 1 < length s → lineReading s most ≡ Other
   unfolding lineReading
   read-long h = rw (lt-leb (length s) (most + 1) h)
 
-  -- no more
-  module _ (fits : length s ≤ most + 1) where
-    pub read-open : (getD s (length s - 1) 0 ≡ lineFeed → ⊥) → lineReading s most ≡ Other
-    unfolding lineReading
-    read-open h = rw (le-leb (length s) (most + 1) fits, ne-eqb (getD s (length s - 1) 0) lineFeed h)
+  pub read-open : (getD s (length s - 1) 0 ≡ lineFeed → ⊥) → lineReading s most ≡ Other
+  unfolding lineReading
+  read-open h = rw (ne-eqb (getD s (length s - 1) 0) lineFeed h) (other (leb (length s) (most + 1)))
+    where
+      other : (t : Bool) → cond (t && false) (reading (body s)) Other ≡ Other
+      other true = refl
+      other false = refl
 
-    pub read-ended : getD s (length s - 1) 0 ≡ lineFeed → lineReading s most ≡ reading (body s)
-    unfolding lineReading
-    read-ended h = rw (le-leb (length s) (most + 1) fits, eq-eqb (getD s (length s - 1) 0) lineFeed h)
+  -- neither
+  pub read-ended : length s ≤ most + 1 → getD s (length s - 1) 0 ≡ lineFeed → lineReading s most ≡ reading (body s)
+  unfolding lineReading
+  read-ended fits h = rw (le-leb (length s) (most + 1) fits, eq-eqb (getD s (length s - 1) 0) lineFeed h)
 
 -- no byte at all
 pub read-none : (s : List ℕ) (most : ℕ) → length s ≡ 0 → lineReading s most ≡ Other
-read-none [] most h = read-open [] most (omega arith) (λ e. omega (arith, e))
+read-none [] most h = read-open [] most (λ e. omega (arith, e))
 read-none (b ∷ s) most h = absurd (omega arith)
 
 -- 1 to `most` digits that stand for a number below 2^64, and a line feed, are read as that number

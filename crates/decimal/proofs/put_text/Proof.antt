@@ -7,7 +7,7 @@ use native.Mathlib.Numerals.{add-one}
 use borrow.Author.Needs.{needs}
 use lib.ListN.{length}
 use lib.Seq.{paste, paste-zero, paste-suc, length-paste}
-use Rattle.decimal.proofs.Writing.{paste-written, room-fits, put-none, put-some}
+use Rattle.decimal.proofs.Writing.{paste-written, room-fits, room-lacks, put-none, put-some}
 use Rattle.decimal.proofs.put_text.Statement.{statement}
 use Rattle.decimal.proofs.put_text.Tie as tie
 
@@ -26,13 +26,14 @@ same-length c = search needs
 returns : tie.Need-returns Inv-loop μ-loop
 returns c =
     let a = c .before .before .before .before .before .args in
-    put-none (a .out .now) (a .at) (length (a .t .now)) (c .before .has-room .ensures) (a .t .now) (c .if1 .taken)
+    let lacks = room-lacks (a .out .now) (a .at) _ (c .before .has-room .ensures) (c .if1 .taken) in
+    put-none (a .out .now) (a .at) (length (a .t .now)) (a .t .now) (omega (arith, lacks))
 
 loop-holds : tie.Need-loop-holds Inv-loop μ-loop
 loop-holds c =
     let a = c .before .before .before .before .before .args in (
       omega arith,
-      room-fits (a .out .now) (a .at) (length (a .t .now)) (c .before .has-room .ensures) (c .if1 .left),
+      omega (arith, room-fits (a .out .now) (a .at) _ (c .before .has-room .ensures) (c .if1 .left)),
       paste-zero (a .out .now) (a .at) (a .t .now),
     )
 
@@ -77,7 +78,7 @@ returns-2 c =
     let a = c .before .before .before .before .before .before .before .args in
     let l = c .before .loop in
     let e : l .i ≡ length (a .t .now) = omega arith in
-    put-some (a .out .now) (a .at) (length (a .t .now)) (c .before .before .before .has-room .ensures) (c .before .before .if1 .left)
+    put-some (a .out .now) (a .at) (length (a .t .now)) (l .inv .1)
     record {
       place = ap (λ (n : ℕ). a .at + n) e;
       bytes = l .inv .2 ∙ ap (paste (a .out .now) (a .at) (a .t .now)) e ∙ paste-written (a .out .now) (a .at) (a .t .now);

@@ -1,10 +1,8 @@
 -- `lines::read` meets its contract: each `return` is one case of what reading a line finds.
 -- Assumes nothing.
 use mathlib.Core.Path.{sym, _∙_}
-use Prim.Native.Nat.{_-_}
 use native.Mathlib.Omega.{arith}
 use borrow.Author.Needs.{needs}
-use lib.ListN.{length}
 use lib.Seq.{length-take-le}
 use Rattle.lines.proofs.ReadLines.{read-none, read-long, read-open, read-ended}
 use Rattle.lines.proofs.read.Statement.{statement}
@@ -25,12 +23,12 @@ shared-slice-read-if3 c = search needs
 returns-3 : tie.Need-returns-3
 returns-3 c =
     let a = c .before .before .before .before .before .args in
-    sym (read-open (a .line .now) (a .most) (omega arith) (omega arith))
+    sym (read-open (a .line .now) (a .most) (omega arith))
 
 slice-aggregate-read : tie.Need-slice-aggregate-read
 slice-aggregate-read c =
     let s = c .before .before .before .before .before .before .args .line .now in
-    sym (length-take-le (length s - 1) s (omega arith))
+    sym (length-take-le _ s (omega arith))
 
 read-requires : tie.Need-read-requires
 read-requires c κs = search needs

@@ -17,7 +17,7 @@ enum-known-found c = search needs
 cast-t5 : tie.Need-cast-t5
 cast-t5 c =
     let s = c .before .before .before .before .before .args .input .now in
-    omega (arith, read-below s 9 _ (sym (c .before .before .before .read .ensures) ∙ c .before .found .given .1))
+    omega (arith, read-below s _ _ (sym (c .before .before .before .read .ensures) ∙ c .before .found .given .1))
 
 enum-told : tie.Need-enum-told
 enum-told c = search needs
