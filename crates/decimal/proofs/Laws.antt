@@ -1,26 +1,19 @@
 -- Laws of decimal digits: how many a number has, that they are digits and stand for the number, and how large the value of digits is.
 -- Assumes nothing.
 use mathlib.Core.Path.{_≡_, refl, sym, ap, _∙_}
-use mathlib.Core.Logic.{_⊎_, inl, inr, ⊎-elim}
-use mathlib.Core.Bool.{Bool, true, false, cond, _&&_}
+use mathlib.Core.Logic.{⊎-elim}
+use mathlib.Core.Bool.{Bool, true, false, cond, _&&_, true≢false}
 use mathlib.Core.List.{List, [], _∷_, _++_}
 use Prim.Native.Nat.{ℕ, zero, suc, _+_, _-_, _*_, _/_, _%_, _^_, _≤_, _<_}
-use native.Mathlib.Nat.{pow-suc, pow-le-pow-right, mul-le-mul-right}
+use native.Mathlib.Nat.{pow-suc, mul-le-mul-right}
 use native.Mathlib.Omega.{arith}
-use borrow.Author.Tests.{lt-ltb, le-ltb, ltb-true, ltb-false, le-leb, leb-true}
+use borrow.Author.Tests.{lt-ltb, le-ltb, le-leb, leb-true}
 use lib.Dec.{leb, ltb}
 use lib.ListN.{length, length-append}
+use Rattle.bools.proofs.Bools.{below-or-not}
 use Rattle.decimal.specs.Decimal.{digits, decimal, isDigit, allDigits, isDigits, valueFrom, decimalValue}
 use Rattle.decimal.specs.Reading.{reading}
 use Rattle.decimal.specs.declared.Reading.the-variants.{Number, Other}
-
--- a number is below another or not
-below : (n m : ℕ) → (n < m) ⊎ (m ≤ n)
-below n m = go (ltb n m) refl
-  where
-    go : (t : Bool) → ltb n m ≡ t → (n < m) ⊎ (m ≤ n)
-    go true e = inl (ltb-true n m e)
-    go false e = inr (ltb-false n m e)
 
 -- the two cases of a number's digits
 digits-small : (d n : ℕ) → n < 10 → digits (suc d) n ≡ (48 + n) ∷ []
@@ -41,12 +34,12 @@ unfolding digits
 length-digits zero n = omega arith
 length-digits (suc d) n =
     ⊎-elim (λ h. rw (digits-small d n h) (omega arith))
-    (λ h. rw (digits-large d n h, length-append) (omega (arith, length-digits d (n / 10)))) (below n 10)
+    (λ h. rw (digits-large d n h, length-append) (omega (arith, length-digits d (n / 10)))) (below-or-not n 10)
 
 -- one digit at least
 digits-some : (d n : ℕ) → 0 < length (digits (suc d) n)
 digits-some d n =
-    ⊎-elim (λ h. rw (digits-small d n h) (omega arith)) (λ h. rw (digits-large d n h, length-append) (omega arith)) (below n 10)
+    ⊎-elim (λ h. rw (digits-small d n h) (omega arith)) (λ h. rw (digits-large d n h, length-append) (omega arith)) (below-or-not n 10)
 
 -- where d digits do, further ones change nothing
 digits-enough : (d n : ℕ) → n < 10 ^ suc d → digits (suc (suc d)) n ≡ digits (suc d) n
@@ -55,7 +48,7 @@ digits-enough (suc d) n h =
     ⊎-elim (λ l. digits-small (suc (suc d)) n l ∙ sym (digits-small (suc d) n l))
     (λ l. digits-large (suc (suc d)) n l
     ∙ ap (λ (s : List ℕ). s ++ ((48 + n % 10) ∷ [])) (digits-enough d (n / 10) (tenth-below (suc d) n h))
-    ∙ sym (digits-large (suc d) n l)) (below n 10)
+    ∙ sym (digits-large (suc d) n l)) (below-or-not n 10)
 
 -- a number below 10^d, d from 1, has d digits at most
 digits-below : (e d n : ℕ) → n < 10 ^ suc d → length (digits e n) ≤ suc d
@@ -64,7 +57,7 @@ digits-below zero d n h = omega arith
 digits-below (suc e) zero n h = rw (digits-small e n h) (omega arith)
 digits-below (suc e) (suc d) n h =
     ⊎-elim (λ l. rw (digits-small e n l) (omega arith))
-    (λ l. rw (digits-large e n l, length-append) (omega (arith, digits-below e d (n / 10) (tenth-below (suc d) n h)))) (below n 10)
+    (λ l. rw (digits-large e n l, length-append) (omega (arith, digits-below e d (n / 10) (tenth-below (suc d) n h)))) (below-or-not n 10)
 
 -- the digits of a number below ten, and of a larger one: those of its tenth and one more
 pub decimal-small : (n : ℕ) → n < 10 → decimal n ≡ (48 + n) ∷ []
@@ -117,7 +110,7 @@ unfolding digits
 digits-all zero n = refl
 digits-all (suc d) n =
     ⊎-elim (λ h. rw (digits-small d n h) (one-digit n h))
-    (λ h. rw (digits-large d n h) (all-append (digits d (n / 10)) _ (digits-all d (n / 10)) (one-digit (n % 10) (omega arith)))) (below n 10)
+    (λ h. rw (digits-large d n h) (all-append (digits d (n / 10)) _ (digits-all d (n / 10)) (one-digit (n % 10) (omega arith)))) (below-or-not n 10)
 
 -- and stand for it
 digits-value : (d n : ℕ) → n < 10 ^ d → valueFrom 0 (digits d n) ≡ n
@@ -125,7 +118,7 @@ unfolding digits
 digits-value zero n h = omega arith
 digits-value (suc d) n h =
     ⊎-elim (λ l. rw (digits-small d n l) (omega arith))
-    (λ l. rw (digits-large d n l, value-append, digits-value d (n / 10) (tenth-below d n h)) (omega arith)) (below n 10)
+    (λ l. rw (digits-large d n l, value-append, digits-value d (n / 10) (tenth-below d n h)) (omega arith)) (below-or-not n 10)
 
 -- the digits of every number are digits, one at least
 pub decimal-digits : (n : ℕ) → isDigits (decimal n) ≡ true
@@ -175,6 +168,11 @@ pub is-all : (s : List ℕ) → isDigits s ≡ true → allDigits s ≡ true
 is-all [] p = refl
 is-all (b ∷ s) p = p
 
+-- and one at least
+pub is-some : (s : List ℕ) → isDigits s ≡ true → 0 < length s
+is-some [] p = absurd (true≢false (sym p))
+is-some (b ∷ s) p = omega arith
+
 -- what was read as a number is digits that stand for it
 pub reading-number : (s : List ℕ) (v : ℕ) → reading s ≡ Number v → (isDigits s ≡ true) × (decimalValue s ≡ v)
 reading-number s v e = go (isDigits s) (ltb (decimalValue s) (2 ^ 64)) refl e
@@ -183,13 +181,3 @@ reading-number s v e = go (isDigits s) (ltb (decimalValue s) (2 ^ 64)) refl e
     go true true p q = (p, cc)
     go true false p q = absurd (let z : _≡_ {A = ℕ} 0 1 = cc in omega arith)
     go false y p q = absurd (let z : _≡_ {A = ℕ} 0 1 = cc in omega arith)
-
--- fewer than twenty bytes that were not read as a number are not digits
-pub reading-other : (s : List ℕ) → length s ≤ 19 → reading s ≡ Other → isDigits s ≡ false
-reading-other s h e = go (isDigits s) refl e
-  where
-    go : (x : Bool) → isDigits s ≡ x → cond (x && ltb (decimalValue s) (2 ^ 64)) (Number (decimalValue s)) Other ≡ Other → isDigits s ≡ false
-    go true p q =
-        let small : decimalValue s < 2 ^ 64 = omega (arith, value-below s (is-all s p), pow-le-pow-right {n = 10} (omega arith) h) in
-        absurd (let z : _≡_ {A = ℕ} 0 1 = cc (rw (lt-ltb (decimalValue s) (2 ^ 64) small) at q) in omega arith)
-    go false p q = p

@@ -1,6 +1,7 @@
 -- Reading digit by digit: what is found from a value and the bytes that are left.
 -- Assumes nothing.
 use mathlib.Core.Path.{_≡_, refl, _∙_}
+use mathlib.Core.Logic.{⊎-elim}
 use mathlib.Core.Bool.{Bool, true, false, cond, _&&_}
 use mathlib.Core.List.{List, [], _∷_}
 use Prim.Native.Nat.{ℕ, _+_, _-_, _*_, _^_, _≤_, _<_}
@@ -10,6 +11,7 @@ use borrow.Author.Tests.{lt-ltb, le-ltb, le-leb, lt-leb}
 use lib.Dec.{ltb}
 use lib.ListN.{length, drop, getD, drop-of-length-le}
 use lib.Seq.{drop-cons}
+use Rattle.bools.proofs.Bools.{below-or-not}
 use Rattle.decimal.specs.Decimal.{allDigits, valueFrom}
 use Rattle.decimal.specs.Reading.{reading}
 use Rattle.decimal.specs.declared.Reading.{Reading}
@@ -54,5 +56,5 @@ module _ (s : List ℕ) (v at : ℕ) (inside : at < length s) where
   pub at-digit : 48 ≤ next → next ≤ 57 → readingFrom v (drop at s) ≡ readingFrom (v * 10 + (next - 48)) (drop (at + 1) s)
   at-digit l h = rw (drop-cons s at 0 inside, add-one, le-leb 48 next l, le-leb next 57 h)
 
-  pub at-over : 48 ≤ next → next ≤ 57 → 2 ^ 64 ≤ v * 10 + (next - 48) → readingFrom v (drop at s) ≡ Other
-  at-over l h o = at-digit l h ∙ from-over (v * 10 + (next - 48)) (drop (at + 1) s) o
+  pub at-over : 48 ≤ next → 2 ^ 64 ≤ v * 10 + (next - 48) → readingFrom v (drop at s) ≡ Other
+  at-over l o = ⊎-elim at-high (λ h. at-digit l h ∙ from-over (v * 10 + (next - 48)) (drop (at + 1) s) o) (below-or-not 57 next)

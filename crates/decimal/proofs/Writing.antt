@@ -1,6 +1,7 @@
 -- Laws of text written at a place: its length, pieces written one after the other, and one byte as a store.
 -- Assumes nothing.
-use mathlib.Core.Path.{_≡_, sym, ap, _∙_}
+use mathlib.Core.Path.{_≡_, refl, sym, ap, _∙_}
+use mathlib.Core.Bool.{Bool, true, false, not}
 use mathlib.Core.List.{List, [], _∷_, _++_, append-assoc, append-nil}
 use Prim.Native.Nat.{ℕ, _+_, _≤_, _<_}
 use native.Mathlib.Nat.{add-assoc, add-zero}
@@ -8,8 +9,8 @@ use native.Mathlib.Numerals.{add-one}
 use native.Mathlib.Omega.{arith}
 use lib.ListN.{length, take, drop, set, length-append, length-drop, take-append-drop}
 use lib.Seq.{length-take-le, take-at, drop-append-add, drop-drop, set-split, paste, take-length, append-snoc}
-use borrow.Author.Tests.{le-leb}
-use Rattle.decimal.specs.Text.{written, putInto, placeAfter, Wrote}
+use borrow.Author.Tests.{le-leb, lt-leb, leb-true, leb-false, not-true, not-false}
+use Rattle.decimal.specs.Text.{written, hasRoom, putInto, placeAfter, Wrote}
 
 module _ (s : List ℕ) (at : ℕ) (t : List ℕ) (fits : at + length t ≤ length s) where
   -- what stands up to the end of the text
@@ -54,7 +55,23 @@ pub paste-written : (s : List ℕ) (at : ℕ) (t : List ℕ) → paste s at t (l
 unfolding written
 paste-written s at t = rw take-length
 
--- a call that asks for room and finds it wrote its text
+-- what a test of room says, where it passed and where it failed
+module _ (s : List ℕ) (at n : ℕ) {room : Bool} (e : room ≡ hasRoom s at n) where
+  pub room-fits : not room ≡ false → at + n ≤ length s
+  room-fits p = leb-true (at + n) (length s) (sym e ∙ not-false room p)
+
+  pub room-lacks : not room ≡ true → length s < at + n
+  room-lacks f = leb-false (at + n) (length s) (sym e ∙ not-true room f)
+
+-- a call that asks for room for n bytes keeps its promise where it finds none and changes nothing, and where it finds it and writes its text
+module _ (s : List ℕ) (at n : ℕ) where
+  pub put-none : (t : List ℕ) → length s < at + n → (at ≡ placeAfter s at n t) × (s ≡ putInto s at n t)
+  put-none t h = rw (lt-leb (at + n) (length s) h) (refl, refl)
+
+  pub put-some : {t : List ℕ} {r : ℕ} {o : List ℕ} → at + n ≤ length s → Wrote s at t r o → (r ≡ placeAfter s at n t) × (o ≡ putInto s at n t)
+  put-some h w = rw (le-leb (at + n) (length s) h) (w .place, w .bytes)
+
+-- such a call wrote its text where it found room
 pub wrote-room : (s : List ℕ) (at n : ℕ) (t : List ℕ) {r : ℕ} {o : List ℕ} → at + n ≤ length s → r ≡ placeAfter s at n t → o ≡ putInto s at n t → Wrote s at t r o
 wrote-room s at n t h p b =
     record { place = rw (le-leb (at + n) (length s) h) at p; bytes = rw (le-leb (at + n) (length s) h) at b }

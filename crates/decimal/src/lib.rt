@@ -2,7 +2,7 @@
 ghost use mathlib.Core.Path.{_≡_};
 ghost use Prim.Native.Nat.{_+_, _≤_};
 ghost use lib.ListN.{length};
-ghost use Rattle.decimal.specs.Text.{written, putInto, placeAfter};
+ghost use Rattle.decimal.specs.Text.{written, hasRoom, putInto, placeAfter};
 ghost use Rattle.decimal.specs.Decimal.{decimal, mostDigits};
 ghost use Rattle.decimal.specs.Reading.{reading};
 
@@ -47,6 +47,16 @@ pub fn read(s: &[u8]) -> Reading
     Reading::Number(value)
 }
 
+// Whether n bytes from place `at` on lie within s.
+pub fn has_room(s: &[u8], at: usize, n: usize) -> bool
+    ensures { λ r. ⌜ r ≡ hasRoom (now (s .entry)) at n ⌝ }
+{
+    if s.len() < n {
+        return false;
+    }
+    at <= s.len() - n
+}
+
 // Writes the digits of n at `at`, where they have room, and gives the place after them.
 fn put_digits(out: &mut [u8], at: usize, n: u64) -> usize
     requires { ⌜ at + length (decimal n) ≤ length (now out) ⌝ }
@@ -69,10 +79,7 @@ pub fn put(out: &mut [u8], at: usize, n: u64) -> usize
     ensures { λ r. ⌜ now (out .exit) ≡ putInto (now (out .entry)) at mostDigits (decimal n) ⌝ }
     ensures { λ r. do ⌜ (← ⟦MOST_DIGITS⟧ .entry) ≡ mostDigits ⌝ }
 {
-    if out.len() < MOST_DIGITS {
-        return at;
-    }
-    if out.len() - MOST_DIGITS < at {
+    if !has_room(out, at, MOST_DIGITS) {
         return at;
     }
     put_digits(out, at, n)
@@ -83,10 +90,7 @@ pub fn put_text(out: &mut [u8], at: usize, t: &[u8]) -> usize
     ensures { λ r. ⌜ r ≡ placeAfter (now (out .entry)) at (length (now (t .entry))) (now (t .entry)) ⌝ }
     ensures { λ r. ⌜ now (out .exit) ≡ putInto (now (out .entry)) at (length (now (t .entry))) (now (t .entry)) ⌝ }
 {
-    if out.len() < t.len() {
-        return at;
-    }
-    if out.len() - t.len() < at {
+    if !has_room(out, at, t.len()) {
         return at;
     }
     let mut i: usize = 0;

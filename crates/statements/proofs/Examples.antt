@@ -6,7 +6,8 @@ use Rattle.quotient.specs.Quotient.{roundedUp}
 use Rattle.packing.specs.Packing.{wordAt, fieldAt}
 use Rattle.bools.specs.Lowest.{lowest}
 use Rattle.decimal.specs.Decimal.{digits, decimal}
-use Rattle.table_text.specs.TableText.{precisionOf, field, line, lines, header, tableOf, tableText}
+use Rattle.lines.specs.Lines.{lineReading, field}
+use Rattle.table_text.specs.TableText.{precisionOf, line, lines, header, tableOf, tableText}
 use Rattle.statements.specs.Examples.{imageExamples, ImageHolds, reciprocalExamples, ReciprocalHolds, textExamples, TextHolds, Each, ExamplesHold}
 
 -- a row and those after it
@@ -37,7 +38,7 @@ reciprocals-hold =
     also tt
 
 texts-hold : Each TextHolds textExamples
-unfolding precisionOf digits decimal roundedUp field line lines header tableOf tableText
+unfolding precisionOf lineReading digits decimal roundedUp field line lines header tableOf tableText
 texts-hold = refl also refl also refl also tt
 
 pub examples-hold : ExamplesHold

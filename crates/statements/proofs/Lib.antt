@@ -14,4 +14,4 @@ pub mod Built
 pub mod Depends
 pub mod Parts
 pub mod Requests
-pub mod Lines
+pub mod TableLines

@@ -11,11 +11,13 @@ use lib.ListN.{length, take}
 use Rattle.decimal.specs.Decimal.{decimal, isDigits, decimalValue}
 use Rattle.decimal.proofs.Laws.{decimal-digits, value-decimal}
 use Rattle.precision.proofs.Range.{range-in}
-use Rattle.table_text.specs.TableText.{precisionOf, line, lines, header, tableText, refusedText, longestText, lineFeed}
+use Rattle.lines.specs.Lines.{lineFeed, refusedText}
+use Rattle.lines.proofs.WholeLines.{line-refused}
+use Rattle.table_text.specs.TableText.{precisionOf, line, lines, header, tableText, longestText}
 use Rattle.table_text.proofs.Sizes.{text-fits}
 use Rattle.statements.specs.Terms.{IsPrecision}
-use Rattle.statements.proofs.Lines
 use Rattle.statements.proofs.Requests
+use Rattle.statements.proofs.TableLines
 
 -- 1 to 9 digits and a line feed request the number that the digits stand for
 pub digits-request : (d : List ℕ) → isDigits d ≡ true → length d ≤ 9 → precisionOf (d ++ lineFeed ∷ []) ≡ decimalValue d
@@ -37,7 +39,7 @@ prints-table d e l p =
     rw asks at (Requests.text-in-range (d ++ lineFeed ∷ []) (rw asks (range-in (decimalValue d) (p .0) (p .1))))
 
 -- and digits that stand for another number are refused
-pub prints-refusal : (d : List ℕ) → isDigits d ≡ true → length d ≤ 9 → (IsPrecision (decimalValue d) → ⊥) → tableText (d ++ lineFeed ∷ []) ≡ refusedText
+pub prints-refusal : (d : List ℕ) → isDigits d ≡ true → length d ≤ 9 → (IsPrecision (decimalValue d) → ⊥) → tableText (d ++ lineFeed ∷ []) ≡ refusedText 1
 prints-refusal d e l f = Requests.text-out-of-range (d ++ lineFeed ∷ []) (rw (digits-request d e l) f)
 
 -- the digits that are printed for a number stand for it
@@ -45,18 +47,18 @@ pub printed-digits : (n : ℕ) → n < 10 ^ 20 → (isDigits (decimal n) ≡ tru
 printed-digits n h = (decimal-digits n, value-decimal n h)
 
 -- so is input that is not 1 to 9 digits and a line feed
-pub other-input : (s : List ℕ) → ((d : List ℕ) → isDigits d ≡ true → length d ≤ 9 → s ≡ d ++ lineFeed ∷ [] → ⊥) → tableText s ≡ refusedText
+pub other-input : (s : List ℕ) → ((d : List ℕ) → isDigits d ≡ true → length d ≤ 9 → s ≡ d ++ lineFeed ∷ [] → ⊥) → tableText s ≡ refusedText 1
 other-input = Requests.text-of-other
 
 -- each printed line ends in a line feed and has no other: the line of a node, the first line, the refusal
 pub node-line : (k j : ℕ) → (t : List ℕ) × (line k j ≡ t ++ lineFeed ∷ []) × (List·Memᴰ lineFeed t → ⊥)
-node-line = Lines.line-of-node
+node-line = TableLines.line-of-node
 
 pub first-line : (k : ℕ) → (t : List ℕ) × (header k ≡ t ++ lineFeed ∷ []) × (List·Memᴰ lineFeed t → ⊥)
-first-line = Lines.line-of-header
+first-line = TableLines.line-of-header
 
-pub refusal-line : (t : List ℕ) × (refusedText ≡ t ++ lineFeed ∷ []) × (List·Memᴰ lineFeed t → ⊥)
-refusal-line = Lines.line-of-refusal
+pub refusal-line : (t : List ℕ) × (refusedText 1 ≡ t ++ lineFeed ∷ []) × (List·Memᴰ lineFeed t → ⊥)
+refusal-line = line-refused 1
 
 -- eleven bytes settle what is printed, so input longer than any buffer needs no more
 pub prefix-settles : (n : ℕ) (s : List ℕ) → 11 ≤ n → tableText (take n s) ≡ tableText s

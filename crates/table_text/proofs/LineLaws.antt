@@ -9,7 +9,8 @@ use native.Mathlib.Omega.{arith}
 use borrow.Author.Tests.{le-leb, eq-eqb, ne-eqb}
 use Rattle.precision.specs.Precision.{inRange, wordWidth}
 use Rattle.nodes.specs.Nodes.{node, nodeOr0}
-use Rattle.table_text.specs.TableText.{field, line, lines, space, lineFeed, hyphenText, precisionOf, tableOf, tableText, refusedText}
+use Rattle.lines.specs.Lines.{lineFeed, space, field, refusedText}
+use Rattle.table_text.specs.TableText.{line, lines, hyphenText, precisionOf, tableOf, tableText}
 
 -- no line yet, and one line more
 pub lines-none : (k : ℕ) → lines k 0 ≡ []
@@ -35,7 +36,7 @@ module _ (k j : ℕ) (served : inRange k ≡ true) where
   line-last {c} h p = rw (p, value-in (omega arith), eq-eqb j (2 ^ k) h)
 
 -- the text of an input, by whether the precision that it requests is in range
-pub text-refused : (s : List ℕ) → inRange (precisionOf s) ≡ false → tableText s ≡ refusedText
+pub text-refused : (s : List ℕ) → inRange (precisionOf s) ≡ false → tableText s ≡ refusedText 1
 unfolding tableText
 text-refused s e = rw e
 

@@ -2,7 +2,7 @@
 -- Assumes nothing.
 use mathlib.Core.Path.{_≡_, refl}
 use mathlib.Core.Bool.{Bool, true, false, cond}
-use mathlib.Core.List.{List, [], _∷_, _++_}
+use mathlib.Core.List.{List, _++_}
 use Prim.Native.Nat.{ℕ, zero, suc, _+_, _*_, _^_, _≤_, _<_}
 use native.Mathlib.Nat.{mul-le-mul, mod-lt, mul-one}
 use native.Mathlib.Omega.{arith}
@@ -10,32 +10,21 @@ use borrow.Author.Tests.{leb-true}
 use lib.Dec.{leb, eqb}
 use lib.ListN.{length, length-append}
 use lib.Pow.{pow-pos, pow-mono}
-use Rattle.decimal.specs.Decimal.{decimal}
-use Rattle.decimal.proofs.Laws.{length-decimal, length-decimal-below}
+use Rattle.lines.specs.Lines.{lineFeed, space, field, refusedText}
+use Rattle.lines.proofs.Sizes.{field-most, field-below, refused-most}
 use Rattle.precision.specs.Precision.{inRange, wordWidth, imageLength}
 use Rattle.precision.proofs.Range.{in-range}
 use Rattle.quotient.specs.Quotient.{roundedUp}
 use Rattle.quotient.proofs.Laws.{exact, antitone}
 use Rattle.nodes.specs.Nodes.{node, storedWord}
-use Rattle.table_text.specs.TableText.{field, wordField, line, lines, header, tableOf, tableText, refusedText, precisionOf, longestText, printedLength, space, lineFeed, hyphenText}
+use Rattle.table_text.specs.TableText.{wordField, line, lines, header, tableOf, tableText, precisionOf, longestText, printedLength, hyphenText}
 
 -- the table of a precision has at most 4096 words
 pub count-most : (k : ℕ) → inRange k ≡ true → 2 ^ k ≤ 4096
 count-most k e = pow-mono {i = k} {j = 12} (in-range k e .1)
 
--- a number and the byte after it
-pub length-field : (n b : ℕ) → length (field n b) ≡ length (decimal n) + 1
-unfolding field
-length-field n b = length-append (decimal n) (b ∷ [])
-
-pub field-most : (n b : ℕ) → length (field n b) ≤ 21
-field-most n b = omega (arith, length-field n b, length-decimal n)
-
 pub columns-most : (j c : ℕ) → length (field j space ++ field c space) ≤ 42
 columns-most j c = rw length-append (omega (arith, field-most j space, field-most c space))
-
-field-below : (d n b : ℕ) → 1 ≤ d → n < 10 ^ d → length (field n b) ≤ d + 1
-field-below d n b p h = omega (arith, length-field n b, length-decimal-below d n p h)
 
 -- a node's value is at most what is divided for it
 node-below : (k j : ℕ) → inRange k ≡ true → node k j < 10 ^ 12
@@ -90,11 +79,11 @@ pub text-fits : (s : List ℕ) → length (tableText s) ≤ longestText
 unfolding tableText tableOf
 text-fits s = go (inRange (precisionOf s)) refl
   where
-    go : (x : Bool) → inRange (precisionOf s) ≡ x → length (cond x (tableOf (precisionOf s)) refusedText) ≤ longestText
+    go : (x : Bool) → inRange (precisionOf s) ≡ x → length (cond x (tableOf (precisionOf s)) (refusedText 1)) ≤ longestText
     go true e =
         let k = precisionOf s in
         rw length-append (omega (arith, header-most k e, count-most k e, lines-most k (2 ^ k + 1) e (omega arith)))
-    go false e = omega arith
+    go false e = omega (arith, refused-most 1)
 
 -- so what is printed lies within the buffer
 pub printed-within : (input s : List ℕ) {r : ℕ} → r ≡ printedLength input s → r ≤ length s

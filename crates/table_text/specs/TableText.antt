@@ -1,36 +1,18 @@
 -- The printed table (document 01, "The printed table").
 -- Assumes nothing.
-use Prim.Native.Nat.{ℕ, zero, suc, _+_, _-_, _*_, _^_}
-use mathlib.Core.Bool.{Bool, cond, _&&_}
+use Prim.Native.Nat.{ℕ, zero, suc, _+_, _*_, _^_}
+use mathlib.Core.Bool.{Bool, cond}
 use mathlib.Core.List.{List, [], _∷_, _++_}
 use lib.Dec.{leb, eqb}
-use lib.ListN.{length, take, getD}
+use lib.ListN.{length}
 use Rattle.decimal.specs.Text.{written}
-use Rattle.decimal.specs.Decimal.{decimal, isDigits, decimalValue}
+use Rattle.lines.specs.Lines.{lineFeed, space, lineReading, numberOr0, field, refusedText}
 use Rattle.precision.specs.Precision.{inRange, imageLength}
 use Rattle.nodes.specs.Nodes.{node, storedWord}
 
-abbrev pub lineFeed : ℕ
-lineFeed = 10
-
-abbrev pub space : ℕ
-space = 32
-
--- the input without its last byte
-abbrev pub body : List ℕ → List ℕ
-body s = take (length s - 1) s
-
--- the input is 1 to 9 digits, then one line feed and no more
-abbrev pub isRequest : List ℕ → Bool
-isRequest s = leb 2 (length s) && leb (length s) 10 && eqb (getD s (length s - 1) 0) lineFeed && isDigits (body s)
-
--- the precision that the input requests; other input counts as 0
+-- the precision that the input requests, in 1 to 9 digits, then one line feed and no more; other input counts as 0
 unfoldable pub precisionOf : List ℕ → ℕ
-precisionOf s = cond (isRequest s) (decimalValue (body s)) 0
-
--- a number and the byte after it
-unfoldable pub field : ℕ → ℕ → List ℕ
-field n b = decimal n ++ (b ∷ [])
+precisionOf s = numberOr0 (lineReading s 9)
 
 -- "-" and a line feed
 abbrev pub hyphenText : List ℕ
@@ -61,17 +43,13 @@ bytesText = 98 ∷ 121 ∷ 116 ∷ 101 ∷ 115 ∷ space ∷ []
 unfoldable pub header : ℕ → List ℕ
 header k = precisionText ++ field k space ++ (bytesText ++ field (imageLength k) lineFeed)
 
--- "refused 1" and a line feed
-abbrev pub refusedText : List ℕ
-refusedText = 114 ∷ 101 ∷ 102 ∷ 117 ∷ 115 ∷ 101 ∷ 100 ∷ space ∷ 49 ∷ lineFeed ∷ []
-
 -- the table of k: its first line and the lines of nodes 0 to 2^k
 unfoldable pub tableOf : ℕ → List ℕ
 tableOf k = header k ++ lines k (2 ^ k + 1)
 
 -- what is printed for an input: the table of the precision that it requests, and the refusal where that is out of range
 unfoldable pub tableText : List ℕ → List ℕ
-tableText s = cond (inRange (precisionOf s)) (tableOf (precisionOf s)) refusedText
+tableText s = cond (inRange (precisionOf s)) (tableOf (precisionOf s)) (refusedText 1)
 
 -- the room that is asked for before a text is written: 32 bytes for each of 4098 lines
 abbrev pub longestText : ℕ

@@ -6,13 +6,11 @@ ghost use Prim.Native.Nat.{_+_, _^_, _≤_};
 ghost use lib.ListN.{length};
 ghost use Rattle.decimal.specs.Text.{Wrote};
 ghost use Rattle.precision.specs.Precision.{inRange};
+ghost use Rattle.lines.specs.Lines.{lineFeed, space, field};
 ghost use Rattle.table_text.specs.TableText.{
   precisionOf,
-  lineFeed,
   hyphenText,
   tableOf,
-  space,
-  field as fieldText,
   lines as linesText,
   header as headerText,
   longestText,
@@ -29,56 +27,35 @@ pub const LONGEST_TEXT: usize = 131136;
 fn requested(input: &[u8]) -> Precision
     ensures { λ r. ⌜ r .0 ≡ precisionOf (now (input .entry)) ⌝ }
 {
-    let n = input.len();
-    if n < 2 {
-        return Precision(0);
-    }
-    if 10 < n {
-        return Precision(0);
-    }
-    let last = n - 1;
-    if input[last] != b'\n' {
-        return Precision(0);
-    }
-    let found = decimal::read(&input[..last]);
+    let found = lines::read(input, 9);
     match found {
         Reading::Number(k) => Precision(k as u32),
         Reading::Other => Precision(0),
     }
 }
 
-// Writes n and the byte b after it.
-fn field(out: &mut [u8], at: usize, n: u64, b: u8) -> usize
-    requires { ⌜ at + 21 ≤ length (now out) ⌝ }
-    ensures { λ r. ⌜ Wrote (now (out .entry)) at (fieldText n b) r (now (out .exit)) ⌝ }
-{
-    let end = decimal::put(out, at, n);
-    out[end] = b;
-    end + 1
-}
-
 // Writes the first two columns of a line: the node's number j and its value c.
 fn columns(out: &mut [u8], at: usize, j: u64, c: u64) -> usize
     requires { ⌜ at + 42 ≤ length (now out) ⌝ }
-    ensures { λ r. ⌜ Wrote (now (out .entry)) at (fieldText j space ++ fieldText c space) r (now (out .exit)) ⌝ }
+    ensures { λ r. ⌜ Wrote (now (out .entry)) at (field j space ++ field c space) r (now (out .exit)) ⌝ }
 {
-    let next = field(out, at, j, b' ');
-    field(out, next, c, b' ')
+    let next = lines::put(out, at, j, b' ');
+    lines::put(out, next, c, b' ')
 }
 
 // Writes the line of a node that has a word.
 fn row(out: &mut [u8], at: usize, j: u64, c: u64, word: u64) -> usize
     requires { ⌜ at + 63 ≤ length (now out) ⌝ }
-    ensures { λ r. ⌜ Wrote (now (out .entry)) at (fieldText j space ++ fieldText c space ++ fieldText word lineFeed) r (now (out .exit)) ⌝ }
+    ensures { λ r. ⌜ Wrote (now (out .entry)) at (field j space ++ field c space ++ field word lineFeed) r (now (out .exit)) ⌝ }
 {
     let next = columns(out, at, j, c);
-    field(out, next, word, b'\n')
+    lines::put(out, next, word, b'\n')
 }
 
 // Writes the line of the last node, which has no word.
 fn last_row(out: &mut [u8], at: usize, j: u64, c: u64) -> usize
     requires { ⌜ at + 63 ≤ length (now out) ⌝ }
-    ensures { λ r. ⌜ Wrote (now (out .entry)) at (fieldText j space ++ fieldText c space ++ hyphenText) r (now (out .exit)) ⌝ }
+    ensures { λ r. ⌜ Wrote (now (out .entry)) at (field j space ++ field c space ++ hyphenText) r (now (out .exit)) ⌝ }
 {
     let next = columns(out, at, j, c);
     decimal::put_text(out, next, b"-\n")
@@ -87,10 +64,10 @@ fn last_row(out: &mut [u8], at: usize, j: u64, c: u64) -> usize
 // Writes a title, then n and the byte b after it.
 fn titled(out: &mut [u8], at: usize, title: &[u8], n: u64, b: u8) -> usize
     requires { ⌜ at + length (now title) + 21 ≤ length (now out) ⌝ }
-    ensures { λ r. ⌜ Wrote (now (out .entry)) at (now (title .entry) ++ fieldText n b) r (now (out .exit)) ⌝ }
+    ensures { λ r. ⌜ Wrote (now (out .entry)) at (now (title .entry) ++ field n b) r (now (out .exit)) ⌝ }
 {
     let next = decimal::put_text(out, at, title);
-    field(out, next, n, b)
+    lines::put(out, next, n, b)
 }
 
 // Writes the first line, with the precision and the image length.
@@ -130,7 +107,7 @@ pub fn print(input: &[u8], out: &mut [u8]) -> usize
     }
     let k = requested(input);
     if !k.in_range() {
-        return decimal::put_text(out, 0, b"refused 1\n");
+        return lines::put_refused(out, 0, 1);
     }
     table(out, k)
 }

@@ -1,13 +1,13 @@
 -- `decimal::put_text` meets its contract. The invariant: the first i bytes of t stand at `at`. The measure is what is left of t.
 -- Assumes nothing.
-use mathlib.Core.Path.{_≡_, refl, ap, _∙_}
+use mathlib.Core.Path.{_≡_, ap, _∙_}
 use Prim.Native.Nat.{ℕ, _+_, _-_, _≤_}
 use native.Mathlib.Omega.{arith}
 use native.Mathlib.Numerals.{add-one}
-use borrow.Author.Tests.{le-leb, lt-leb}
+use borrow.Author.Needs.{needs}
 use lib.ListN.{length}
 use lib.Seq.{paste, paste-zero, paste-suc, length-paste}
-use Rattle.decimal.proofs.Writing.{paste-written}
+use Rattle.decimal.proofs.Writing.{paste-written, room-fits, room-lacks, put-none, put-some}
 use Rattle.decimal.proofs.put_text.Statement.{statement}
 use Rattle.decimal.proofs.put_text.Tie as tie
 
@@ -17,23 +17,25 @@ Inv-loop out₀ at t i₀ out i = (i ≤ length t) × (at + length t ≤ length 
 abbrev μ-loop : tie.MeasureT-loop
 μ-loop out₀ at t i₀ out i = length t - i
 
+has-room-requires : tie.Need-has-room-requires Inv-loop μ-loop
+has-room-requires c κs = search needs
+
+same-length : tie.Need-same-length Inv-loop μ-loop
+same-length c = search needs
+
 returns : tie.Need-returns Inv-loop μ-loop
 returns c =
-    let a = c .before .args in
-    rw (lt-leb (a .at + length (a .t .now)) (length (a .out .now)) (omega arith)) (refl, refl)
-
-sub-if2 : tie.Need-sub-if2 Inv-loop μ-loop
-sub-if2 c = omega arith
-
-returns-2 : tie.Need-returns-2 Inv-loop μ-loop
-returns-2 c =
-    let a = c .before .before .args in
-    rw (lt-leb (a .at + length (a .t .now)) (length (a .out .now)) (omega arith)) (refl, refl)
+    let a = c .before .before .before .before .before .args in
+    let lacks = room-lacks (a .out .now) (a .at) _ (c .before .has-room .ensures) (c .if1 .taken) in
+    put-none (a .out .now) (a .at) (length (a .t .now)) (a .t .now) (omega (arith, lacks))
 
 loop-holds : tie.Need-loop-holds Inv-loop μ-loop
 loop-holds c =
-    let a = c .before .before .args in
-    (omega arith, omega arith, paste-zero (a .out .now) (a .at) (a .t .now))
+    let a = c .before .before .before .before .before .args in (
+      omega arith,
+      omega (arith, room-fits (a .out .now) (a .at) _ (c .before .has-room .ensures) (c .if1 .left)),
+      paste-zero (a .out .now) (a .at) (a .t .now),
+    )
 
 shared-slice-read-out : tie.Need-shared-slice-read-out Inv-loop μ-loop
 shared-slice-read-out c = omega arith
@@ -43,7 +45,7 @@ add-out c = omega arith
 
 slice-write-out : tie.Need-slice-write-out Inv-loop μ-loop
 slice-write-out c =
-    let a = c .before .before .before .before .before .args in
+    let a = c .before .before .before .before .before .before .before .before .args in
     let l = c .before .before .loop in
     rw (l .inv .2, length-paste (a .out .now) (a .at) (a .t .now) (l .i) (omega arith) (l .inv .0)) (omega arith)
 
@@ -55,7 +57,7 @@ loop-less c = omega arith
 
 loop-again : tie.Need-loop-again Inv-loop μ-loop
 loop-again c =
-    let a = c .before .before .before .before .before .args in
+    let a = c .before .before .before .before .before .before .before .before .args in
     let l = c .before .before .loop in (
       omega arith,
       omega arith,
@@ -65,19 +67,22 @@ loop-again c =
 add-result : tie.Need-add-result Inv-loop μ-loop
 add-result c = omega arith
 
-same-length : tie.Need-same-length Inv-loop μ-loop
-same-length c =
-    let a = c .before .before .before .before .args in
+same-length-2 : tie.Need-same-length-2 Inv-loop μ-loop
+same-length-2 c =
+    let a = c .before .before .before .before .before .before .before .args in
     let l = c .before .loop in
     rw (l .inv .2) (length-paste (a .out .now) (a .at) (a .t .now) (l .i) (omega arith) (l .inv .0))
 
-returns-3 : tie.Need-returns-3 Inv-loop μ-loop
-returns-3 c =
-    let a = c .before .before .before .before .args in
+returns-2 : tie.Need-returns-2 Inv-loop μ-loop
+returns-2 c =
+    let a = c .before .before .before .before .before .before .before .args in
     let l = c .before .loop in
     let e : l .i ≡ length (a .t .now) = omega arith in
-    rw (le-leb (a .at + length (a .t .now)) (length (a .out .now)) (omega arith))
-    (ap (λ (n : ℕ). a .at + n) e, l .inv .2 ∙ ap (paste (a .out .now) (a .at) (a .t .now)) e ∙ paste-written (a .out .now) (a .at) (a .t .now))
+    put-some (a .out .now) (a .at) (length (a .t .now)) (l .inv .1)
+    record {
+      place = ap (λ (n : ℕ). a .at + n) e;
+      bytes = l .inv .2 ∙ ap (paste (a .out .now) (a .at) (a .t .now)) e ∙ paste-written (a .out .now) (a .at) (a .t .now);
+    }
 
 pub put-text-spec : {M : Type 1} → statement M
 put-text-spec =
@@ -85,9 +90,9 @@ put-text-spec =
     (tie.spec
     Inv-loop
     μ-loop
+    has-room-requires
+    same-length
     returns
-    sub-if2
-    returns-2
     loop-holds
     shared-slice-read-out
     add-out
@@ -96,5 +101,5 @@ put-text-spec =
     loop-less
     loop-again
     add-result
-    same-length
-    returns-3)
+    same-length-2
+    returns-2)

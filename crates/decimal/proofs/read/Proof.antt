@@ -44,7 +44,7 @@ returns-4 c =
     let l = c .before .before .before .before .before .loop in
     sym (l .inv .2
     ∙ at-over (c .before .before .before .before .before .before .before .args .s .now) (l .value) (l .at)
-    (c .before .before .before .before .loop-test .taken) (omega arith) (omega arith) (omega arith))
+    (c .before .before .before .before .loop-test .taken) (omega arith) (omega arith))
 
 mul-tens : tie.Need-mul-tens Inv-loop μ-loop
 mul-tens c = omega arith
@@ -57,7 +57,7 @@ returns-5 c =
     let l = c .before .before .before .before .before .before .loop in
     sym (l .inv .2
     ∙ at-over (c .before .before .before .before .before .before .before .before .args .s .now) (l .value) (l .at)
-    (c .before .before .before .before .before .loop-test .taken) (omega arith) (omega arith) (omega arith))
+    (c .before .before .before .before .before .loop-test .taken) (omega arith) (omega arith))
 
 add-value : tie.Need-add-value Inv-loop μ-loop
 add-value c = omega arith

@@ -4,8 +4,9 @@ use mathlib.Core.Path.{_≡_, _∙_}
 use native.Mathlib.Omega.{arith}
 use Rattle.precision.specs.Precision.{imageLength, lengthOr0}
 use Rattle.decimal.proofs.Writing.{wrote-more}
-use Rattle.table_text.specs.TableText.{header, space}
-use Rattle.table_text.proofs.Sizes.{field-most}
+use Rattle.lines.specs.Lines.{space}
+use Rattle.lines.proofs.Sizes.{field-most}
+use Rattle.table_text.specs.TableText.{header}
 use borrow.Author.Needs.{needs}
 use Rattle.table_text.proofs.header.Statement.{statement}
 use Rattle.table_text.proofs.header.Tie as tie

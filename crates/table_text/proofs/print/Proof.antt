@@ -7,7 +7,8 @@ use borrow.Author.Tests.{le-leb, lt-leb, not-true, not-false}
 use lib.ListN.{length}
 use Rattle.decimal.proofs.Writing.{wrote-room}
 use Rattle.precision.specs.Precision.{inRange}
-use Rattle.table_text.specs.TableText.{longestText, precisionOf, refusedText, printed, printedLength}
+use Rattle.lines.specs.Lines.{refusedText, longestRefusal}
+use Rattle.table_text.specs.TableText.{longestText, precisionOf, printed, printedLength}
 use Rattle.table_text.proofs.LineLaws.{text-refused, text-table}
 use borrow.Author.Needs.{needs}
 use Rattle.table_text.proofs.print.Statement.{statement}
@@ -24,11 +25,8 @@ requested-requires c κs = search needs
 in-range-requires : tie.Need-in-range-requires
 in-range-requires c κs = search needs
 
-slice-aggregate-put-text : tie.Need-slice-aggregate-put-text
-slice-aggregate-put-text c = search needs
-
-put-text-requires : tie.Need-put-text-requires
-put-text-requires c κs = search needs
+put-refused-requires : tie.Need-put-refused-requires
+put-refused-requires c κs = search needs
 
 same-length : tie.Need-same-length
 same-length c = search needs
@@ -36,10 +34,10 @@ same-length c = search needs
 returns-2 : tie.Need-returns-2
 unfolding printed printedLength
 returns-2 c =
-    let a = c .before .before .before .before .before .before .before .before .before .before .before .args in
+    let a = c .before .before .before .before .before .before .before .before .before .before .args in
     let shut : inRange (precisionOf (a .input .now)) ≡ false =
-    ap inRange (sym (c .before .before .before .before .before .before .before .requested .ensures)) ∙ sym (c .before .before .before .before .before .before .in-range .ensures .0) ∙ not-true (c .before .before .before .before .before .before .in-range .result) (c .before .before .before .before .before .if2 .taken) in
-    let w = wrote-room (a .out .now) 0 10 refusedText (omega arith) (c .before .before .put-text .ensures .0) (c .before .before .put-text .ensures .1) in
+    ap inRange (sym (c .before .before .before .before .before .before .requested .ensures)) ∙ sym (c .before .before .before .before .before .in-range .ensures .0) ∙ not-true (c .before .before .before .before .before .in-range .result) (c .before .before .before .before .if2 .taken) in
+    let w = wrote-room (a .out .now) 0 longestRefusal (refusedText 1) (omega arith) (c .before .before .put-refused .ensures .0) (c .before .before .put-refused .ensures .1 .0) in
     rw (le-leb longestText (length (a .out .now)) (omega arith), text-refused (a .input .now) shut) (omega (arith, w .place), (w .bytes, refl))
 
 table-requires : tie.Need-table-requires
@@ -65,8 +63,7 @@ print-spec =
     returns
     requested-requires
     in-range-requires
-    slice-aggregate-put-text
-    put-text-requires
+    put-refused-requires
     same-length
     returns-2
     table-requires

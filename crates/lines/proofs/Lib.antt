@@ -1,0 +1,3 @@
+pub mod ReadLines
+pub mod WholeLines
+pub mod Sizes
