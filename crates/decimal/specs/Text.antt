@@ -1,6 +1,5 @@
 -- A piece of text at a place of a buffer.
 -- Assumes nothing.
-use mathlib.Core.Path.{_≡_}
 use Prim.Native.Nat.{ℕ, _+_}
 use mathlib.Core.Bool.{Bool, cond}
 use mathlib.Core.List.{List, _++_}
@@ -22,8 +21,3 @@ putInto s at n t = cond (hasRoom s at n) (written s at t) s
 -- the place after the text that such a call writes: `at` itself where there is no room
 abbrev pub placeAfter : List ℕ → ℕ → ℕ → List ℕ → ℕ
 placeAfter s at n t = cond (hasRoom s at n) (at + length t) at
-
--- a call at place `at` of s wrote the text t: it gave the place r after it and left o
-pub record Wrote (s : List ℕ) (at : ℕ) (t : List ℕ) (r : ℕ) (o : List ℕ) : Type 0 where
-  pub place : r ≡ at + length t
-  pub bytes : o ≡ written s at t

@@ -4,7 +4,7 @@ ghost use mathlib.Core.Bool.{true};
 ghost use mathlib.Core.List.{_++_};
 ghost use Prim.Native.Nat.{_+_, _^_, _≤_};
 ghost use lib.ListN.{length};
-ghost use Rattle.decimal.specs.Text.{Wrote};
+ghost use Rattle.decimal.specs.Inner.{Wrote};
 ghost use Rattle.precision.specs.Precision.{inRange};
 ghost use Rattle.lines.specs.Lines.{lineFeed, space, field};
 ghost use Rattle.table_text.specs.TableText.{

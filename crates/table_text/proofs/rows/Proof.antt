@@ -6,7 +6,7 @@ use mathlib.Core.Path.{_≡_, refl, _∙_}
 use Prim.Native.Nat.{_-_, _≤_}
 use native.Mathlib.Omega.{arith}
 use lib.ListN.{length}
-use Rattle.decimal.specs.Text.{Wrote}
+use Rattle.decimal.specs.Inner.{Wrote}
 use Rattle.decimal.proofs.Writing.{wrote-more, wrote-none}
 use Rattle.precision.specs.Precision.{wordWidth}
 use Rattle.precision.proofs.Range.{in-range}

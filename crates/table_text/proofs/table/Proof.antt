@@ -3,7 +3,7 @@
 use mathlib.Core.Path.{_≡_, _∙_}
 use Prim.Native.Nat.{_+_, _^_}
 use native.Mathlib.Omega.{arith}
-use Rattle.decimal.specs.Text.{Wrote}
+use Rattle.decimal.specs.Inner.{Wrote}
 use Rattle.decimal.proofs.Writing.{wrote-more}
 use Rattle.precision.proofs.Range.{words-in-range}
 use Rattle.table_text.specs.TableText.{lines, tableOf}
