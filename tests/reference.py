@@ -175,6 +175,8 @@ def value_or_0(k, j):
 class Cases:
     """Runs a script as crates/cases/src/main.rt describes it: each command is a method, and what it returns is printed."""
 
+    COMMANDS = "fill hex xor length show build precision check node kept word rule eight invert around through".split(" ")
+
     def __init__(self):
         self.room = bytes(ROOM)
         self.lent = 0
@@ -250,14 +252,15 @@ class Cases:
 
 
 def cases(script):
-    """What `cases` prints on a script: each line, and what its command answers."""
+    """What `cases` prints on a script: each line, and what its command answers, if its first word is one."""
     assert len(script) <= SCRIPT, "the program reads no more of a script"
     run = Cases()
     printed = []
     for line in script.decode("ascii").splitlines():
+        printed.append(line + "\n")
         word, *rest = line.split(" ")
-        numbers = [] if word.startswith("#") else [int(text, 16 if word == "hex" else 10) for text in rest]
-        printed.append(line + "\n" + ("" if word.startswith("#") else getattr(run, word)(*numbers)))
+        if word in run.COMMANDS:
+            printed.append(getattr(run, word)(*(int(text, 16 if word == "hex" else 10) for text in rest)))
     return "".join(printed)
 
 

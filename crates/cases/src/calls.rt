@@ -12,8 +12,11 @@ fn answer(n: u32, place: u64, value: u64) {
     line(value);
 }
 
-pub(crate) fn build(s: &mut [u8], k: u32) {
-    let done = building::build(Precision(k), s);
+pub(crate) fn build(room: &mut [u8], lent: usize, k: u32) {
+    if room.len() < lent {
+        return;
+    }
+    let done = building::build(Precision(k), &mut room[0..lent]);
     answer(done.number, done.place, done.value);
 }
 
@@ -80,10 +83,11 @@ fn entry(j: u32) -> u32 {
 
 // What a precision says of itself, the limits that are named with it, and the most fraction bits of an operand.
 pub(crate) fn precision(k: u32) {
-    number(Precision(k).in_range() as u64);
-    number(Precision(k).word_width());
-    number(Precision(k).word_count() as u64);
-    number(Precision(k).image_length() as u64);
+    let p = Precision(k);
+    number(p.in_range() as u64);
+    number(p.word_width());
+    number(p.word_count() as u64);
+    number(p.image_length() as u64);
     number(Precision::LEAST as u64);
     number(Precision::GREATEST as u64);
     number(Precision::LONGEST_IMAGE as u64);

@@ -1,8 +1,8 @@
 // Runs the open calls as a script on standard input asks. crates/cases/stdin has the cases; crates/cases/stdout is written by
 // another program, tests/reference.py.
 //
-// There is a room of 16384 bytes, of which the front is lent to each call. A line of the script is a command, known by its
-// first letter, and its numbers. It is printed as it stands. To make the lent bytes:
+// There is a room of 16384 bytes, of which the front is lent to each call. A line of the script is a command, a word, and its
+// numbers, a space before each. It is printed as it stands. To make the lent bytes:
 //     fill B D      byte i of the room is B + D × i modulo 256; without D every byte is B
 //     hex HH HH ..  these bytes stand at the front, and are what is lent
 //     xor I B       the bits of B are changed in byte I
@@ -21,7 +21,7 @@
 //     invert K N X COUNT STEP
 //     around K N X COUNT STEP (the same with both neighbours of each operand: one less, itself, one more)
 //     through K N X COUNT STEP (the same as `invert`, through a bound table)
-// Any other line, such as one that begins with '#', is printed alone.
+// A line whose first word is no command, such as one that begins with '#', is printed alone.
 mod buffers;
 mod calls;
 mod print;
@@ -40,105 +40,95 @@ fn lines(room: &mut [u8], s: &[u8]) {
     let mut first: usize = 0;
     let mut i = 0;
     while i < s.len() {
-        lent = step(room, lent, s, first, i);
         if s[i] == 10 {
+            lent = run(room, lent, &s[first..i]);
             first = i + 1;
         }
         i += 1;
     }
 }
 
-// Runs the line that begins at `first`, if it ends at i, and answers how many bytes are lent after it.
-fn step(room: &mut [u8], lent: usize, s: &[u8], first: usize, i: usize) -> usize {
-    if s.len() <= i {
-        return lent;
-    }
-    if i < first {
-        return lent;
-    }
-    if s[i] != 10 {
-        return lent;
-    }
-    run(room, lent, &s[first..i])
-}
-
+// Prints a line and runs it, and answers how many bytes are lent after it.
 fn run(room: &mut [u8], lent: usize, line: &[u8]) -> usize {
     print::text(line);
-    lend(room, lent, line);
+    if lent <= room.len() {
+        call(&room[0..lent], line);
+    }
     change(room, lent, line)
 }
 
-fn lend(room: &mut [u8], lent: usize, line: &[u8]) {
-    if lent <= room.len() {
-        call(&mut room[0..lent], line);
-    }
-}
-
-// A command that makes the lent bytes.
+// A command that changes the room or how much of it is lent, by its place among the words.
 fn change(room: &mut [u8], lent: usize, line: &[u8]) -> usize {
-    match script::at(line, 0) {
-        b'h' => return script::hex(line, room),
-        b'f' => buffers::fill(room, script::number(line, 0), script::number(line, 1)),
-        b'x' => buffers::flip(room, script::number(line, 0), script::number(line, 1)),
-        b'l' => return script::number(line, 0) as usize,
+    let first = script::number(line, 1);
+    let second = script::number(line, 2);
+    match script::place(line, b"hex fill xor length build ") {
+        0 => return script::hex(line, room),
+        1 => buffers::fill(room, first, second),
+        2 => buffers::flip(room, first, second),
+        3 => return first as usize,
+        4 => calls::build(room, lent, first),
         _ => {}
     }
     lent
 }
 
-// A command that prints.
-fn call(s: &mut [u8], line: &[u8]) {
-    match script::at(line, 0) {
-        b'b' => calls::build(s, script::number(line, 0)),
-        b's' => print::bytes(s),
-        b'p' | b'c' | b'n' | b'k' | b'w' | b'r' | b'e' => from(s, line),
-        b'i' | b'a' | b't' => operands(s, line),
+// A command that only prints, by its place among the words; `one` and `operand` go by it too.
+fn call(s: &[u8], line: &[u8]) {
+    let place = script::place(
+        line,
+        b"precision check node kept word rule eight invert around through show ",
+    );
+    match place {
+        0..=6 => from(s, line, place),
+        7..=9 => operands(s, line, place),
+        10 => print::bytes(s),
         _ => {}
     }
 }
 
-fn from(s: &[u8], line: &[u8]) {
-    let last = script::number(line, 1);
-    let mut j = script::number(line, 0);
-    one(s, line, j);
+fn from(s: &[u8], line: &[u8], place: usize) {
+    let last = script::number(line, 2);
+    let k = script::number(line, 3);
+    let mut j = script::number(line, 1);
+    one(s, place, k, j);
     while j < last {
         j += 1;
-        one(s, line, j);
+        one(s, place, k, j);
     }
 }
 
-fn one(s: &[u8], line: &[u8], j: u32) {
-    let k = script::number(line, 2);
+fn one(s: &[u8], place: usize, k: u32, j: u32) {
     print::number(j as u64);
-    match script::at(line, 0) {
-        b'p' => calls::precision(j),
-        b'c' => calls::check(s, j),
-        b'n' => calls::node(s, k, j),
-        b'k' => calls::bound_node(s, k, j),
-        b'w' => calls::word(s, k, j),
-        b'r' => calls::rule(k, j),
+    match place {
+        0 => calls::precision(j),
+        1 => calls::check(s, j),
+        2 => calls::node(s, k, j),
+        3 => calls::bound_node(s, k, j),
+        4 => calls::word(s, k, j),
+        5 => calls::rule(k, j),
         _ => calls::eight(j),
     }
 }
 
-fn operands(s: &[u8], line: &[u8]) {
-    let count = script::number(line, 3);
-    let mut x = script::long(line, 2);
+fn operands(s: &[u8], line: &[u8], place: usize) {
+    let k = script::number(line, 1);
+    let n = script::number(line, 2);
+    let mut x = script::long(line, 3);
+    let count = script::number(line, 4);
+    let step = script::long(line, 5);
     let mut made = 1;
-    operand(s, line, x);
+    operand(s, place, k, n, x);
     while made < count {
-        x = std::num::wrapping_add_u64(x, script::long(line, 4));
-        operand(s, line, x);
+        x = std::num::wrapping_add_u64(x, step);
+        operand(s, place, k, n, x);
         made += 1;
     }
 }
 
-fn operand(s: &[u8], line: &[u8], x: u64) {
-    let k = script::number(line, 0);
-    let n = script::number(line, 1);
-    match script::at(line, 0) {
-        b'a' => calls::around(s, k, n, x),
-        b't' => calls::bound_reciprocal(s, k, n, x),
-        _ => calls::reciprocal(s, k, n, x),
+fn operand(s: &[u8], place: usize, k: u32, n: u32, x: u64) {
+    match place {
+        7 => calls::reciprocal(s, k, n, x),
+        8 => calls::around(s, k, n, x),
+        _ => calls::bound_reciprocal(s, k, n, x),
     }
 }

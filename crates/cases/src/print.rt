@@ -1,22 +1,30 @@
 // Printing to standard output.
 use libc::STDOUT_FILENO;
 
+fn space() {
+    io::write_all(STDOUT_FILENO, b" ");
+}
+
+fn end_line() {
+    io::write_all(STDOUT_FILENO, b"\n");
+}
+
 // A line of text.
 pub(crate) fn text(s: &[u8]) {
     io::write_all(STDOUT_FILENO, s);
-    io::write_all(STDOUT_FILENO, b"\n");
+    end_line();
 }
 
 // A space and a number.
 pub(crate) fn number(n: u64) {
-    io::write_all(STDOUT_FILENO, b" ");
+    space();
     io::print_decimal(STDOUT_FILENO, n);
 }
 
 // A number at the end of a line.
 pub(crate) fn line(n: u64) {
     number(n);
-    io::write_all(STDOUT_FILENO, b"\n");
+    end_line();
 }
 
 // Bytes in hex; each 32nd ends a line, and the last one does.
@@ -26,13 +34,13 @@ pub(crate) fn bytes(s: &[u8]) {
         byte(i, s[i]);
         i += 1;
     }
-    io::write_all(STDOUT_FILENO, b"\n");
+    end_line();
 }
 
 fn byte(i: usize, b: u8) {
-    io::write_all(STDOUT_FILENO, b" ");
+    space();
     io::print_hex(STDOUT_FILENO, b as u64, 2);
     if i % 32 == 31 {
-        io::write_all(STDOUT_FILENO, b"\n");
+        end_line();
     }
 }

@@ -5,16 +5,19 @@ use Rattle.cases.proofs.from.Statement.{statement}
 use Rattle.cases.proofs.from.Tie as tie
 
 abbrev Inv-loop : tie.InvT-loop
-Inv-loop s line last j₀ j = 0 ≤ j
+Inv-loop s line place last k j₀ j = 0 ≤ j
 
 abbrev μ-loop : tie.MeasureT-loop
-μ-loop s line last j₀ j = last - j
+μ-loop s line place last k j₀ j = last - j
 
 number-requires : tie.Need-number-requires Inv-loop μ-loop
 number-requires c κs = search needs
 
 number-requires-2 : tie.Need-number-requires-2 Inv-loop μ-loop
 number-requires-2 c κs = search needs
+
+number-requires-3 : tie.Need-number-requires-3 Inv-loop μ-loop
+number-requires-3 c κs = search needs
 
 one-requires : tie.Need-one-requires Inv-loop μ-loop
 one-requires c κs = search needs
@@ -45,6 +48,7 @@ from-spec =
     μ-loop
     number-requires
     number-requires-2
+    number-requires-3
     one-requires
     loop-holds
     add-j

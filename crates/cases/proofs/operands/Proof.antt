@@ -5,25 +5,31 @@ use Rattle.cases.proofs.operands.Statement.{statement}
 use Rattle.cases.proofs.operands.Tie as tie
 
 abbrev Inv-loop : tie.InvT-loop
-Inv-loop s line count x₀ made₀ x made = 0 ≤ made
+Inv-loop s line place k n x₀ count step made₀ x made = 0 ≤ made
 
 abbrev μ-loop : tie.MeasureT-loop
-μ-loop s line count x₀ made₀ x made = count - made
+μ-loop s line place k n x₀ count step made₀ x made = count - made
 
 number-requires : tie.Need-number-requires Inv-loop μ-loop
 number-requires c κs = search needs
 
+number-requires-2 : tie.Need-number-requires-2 Inv-loop μ-loop
+number-requires-2 c κs = search needs
+
 long-requires : tie.Need-long-requires Inv-loop μ-loop
 long-requires c κs = search needs
+
+number-requires-3 : tie.Need-number-requires-3 Inv-loop μ-loop
+number-requires-3 c κs = search needs
+
+long-requires-2 : tie.Need-long-requires-2 Inv-loop μ-loop
+long-requires-2 c κs = search needs
 
 operand-requires : tie.Need-operand-requires Inv-loop μ-loop
 operand-requires c κs = search needs
 
 loop-holds : tie.Need-loop-holds Inv-loop μ-loop
 loop-holds c = search needs
-
-long-requires-2 : tie.Need-long-requires-2 Inv-loop μ-loop
-long-requires-2 c κs = search needs
 
 wrapping-add-u64-requires : tie.Need-wrapping-add-u64-requires Inv-loop μ-loop
 wrapping-add-u64-requires c κs = search needs
@@ -50,10 +56,12 @@ operands-spec =
     Inv-loop
     μ-loop
     number-requires
+    number-requires-2
     long-requires
+    number-requires-3
+    long-requires-2
     operand-requires
     loop-holds
-    long-requires-2
     wrapping-add-u64-requires
     operand-requires-2
     add-made
