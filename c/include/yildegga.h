@@ -89,7 +89,7 @@ yildegga_done yildegga_check(uint32_t k, const uint8_t *image, size_t length);
    Refusals: 1, 2, 3, 6. */
 yildegga_node_read yildegga_node(uint32_t k, const uint8_t *image, size_t length, uint32_t j);
 
-/* Node j of precision 8, from 524288 table units at node 0 down to 262144 at node 256, out of a table of constants in the archive; 0,
+/* Node j of precision 8, from 524288 table units at node 0 down to 262144 at node 256, out of a list of constants in the archive; 0,
    which no node is, where j is above 256. It takes no image. */
 yildegga_table_units yildegga_node_8(uint32_t j);
 

@@ -1,7 +1,7 @@
 //! The nodes of precision 8, which need no image.
 use crate::units::TableUnits;
 
-/// The value of node `j` of precision 8, from 0 to 256, out of the table of constants that the library carries: what
+/// The value of node `j` of precision 8, from 0 to 256, out of the list of constants that the library carries: what
 /// [`node`](crate::node()) reads from the image of precision 8, without an image. It is 0, which no node is, where `j` is above 256.
 ///
 /// ```

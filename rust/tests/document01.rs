@@ -39,7 +39,7 @@ fn nodes_and_images() {
     }
 }
 
-/// The constant table of 257 numbers, from 524288 down to 262144, by the rule and by the image of precision 8.
+/// The constant list of 257 numbers, from 524288 down to 262144, by the rule and by the image of precision 8.
 #[test]
 fn constant_nodes() {
     let eight = image(8);

@@ -7,7 +7,7 @@ use mathlib.Core.List.{List, [], _∷_}
 use Prim.Native.Nat.{ℕ}
 use lib.Dec.{T, eqb, eqb→eq, eqb-refl, T-not}
 use Rattle.bools.proofs.Bools.{both}
-use Rattle.answers.specs.Refusal.{Refusal, Outcome, outcome, turnedBack}
+use Rattle.answers.specs.Refusal.{Refusal, Outcome, outcome, turnedBack, isOneOf}
 
 -- a refusal that applies turns the call back
 pub applied : (r : Refusal) (rs : List Refusal) (v : ℕ) → r .applies ≡ true → outcome (r ∷ rs) v ≡ turnedBack r
@@ -72,11 +72,6 @@ shared-of false x y n e = (λ h. inr h, λ u. ⊎-elim (λ t. absurd t) (λ h. h
 -- where refusals after the first may have its number too, it is the answer's exactly when the first applies or those after it give it
 pub shared : (r : Refusal) (rs : List Refusal) (v : ℕ) → (outcome (r ∷ rs) v .number ≡ r .number) ↔ (T (r .applies) ⊎ (outcome rs v .number ≡ r .number))
 shared r rs v = shared-of (r .applies) (turnedBack r) (outcome rs v) (r .number) refl
-
--- n is one of the list
-abbrev pub isOneOf : ℕ → List ℕ → Bool
-isOneOf n [] = false
-isOneOf n (m ∷ ms) = eqb n m || isOneOf n ms
 
 -- each refusal of the list has a number among ms
 abbrev pub among : List ℕ → List Refusal → Bool

@@ -3,6 +3,7 @@
 use Prim.Native.Nat.{ℕ}
 use mathlib.Core.Bool.{Bool, false, cond, _||_}
 use mathlib.Core.List.{List, [], _∷_}
+use lib.Dec.{eqb}
 
 -- a refusal: whether it applies, its number in the list of document 01, and its place
 pub record Refusal : Type 0 where
@@ -33,3 +34,8 @@ outcome (r ∷ rs) v = cond (r .applies) (turnedBack r) (outcome rs v)
 abbrev pub someApplies : List Refusal → Bool
 someApplies [] = false
 someApplies (r ∷ rs) = r .applies || someApplies rs
+
+-- n is one of the list of numbers
+abbrev pub isOneOf : ℕ → List ℕ → Bool
+isOneOf n [] = false
+isOneOf n (m ∷ ms) = eqb n m || isOneOf n ms

@@ -10,7 +10,7 @@ use answers::Done;
 use nodes::Quotients;
 use precision::Precision;
 
-// x without its lowest `count` bits.
+// x without its lowest `count` bits, as `bits::high`, for counts below 64 alone.
 fn above(x: u64, count: u32) -> u64
     requires { ⌜ count < 64 ⌝ }
     ensures { λ r. ⌜ r ≡ x / 2 ^ count ⌝ }
@@ -18,7 +18,7 @@ fn above(x: u64, count: u32) -> u64
     x >> count
 }
 
-// The lowest `count` bits of x.
+// The lowest `count` bits of x, as `bits::low`, for counts below 64 alone.
 fn below(x: u64, count: u32) -> u64
     requires { ⌜ count < 64 ⌝ }
     ensures { λ r. ⌜ r ≡ x % 2 ^ count ⌝ }

@@ -68,7 +68,7 @@ pub(crate) fn rule(k: u32, j: u32) {
     line(nodes::value(Precision(k), j).0);
 }
 
-// Node j of precision 8: what the call gives, and the entry of the constant table, 0 where there is none.
+// Node j of precision 8: what the call gives, and the entry of the constant list, 0 where there is none.
 pub(crate) fn eight(j: u32) {
     number(nodes::node_8(j).0);
     line(entry(j) as u64);

@@ -27,7 +27,7 @@ pub(crate) fn line(n: u64) {
     end_line();
 }
 
-// Bytes in hex; each 32nd ends a line, and the last one does.
+// Bytes in hex, with a line feed after each 32nd and at the end.
 pub(crate) fn bytes(s: &[u8]) {
     let mut i = 0;
     while i < s.len() {

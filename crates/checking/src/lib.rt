@@ -9,7 +9,7 @@ use answers::Done;
 use nodes::Quotients;
 use precision::Precision;
 
-// The lowest word of a table that is wrong in the image, and their number where none is. Every word up to there is read, two in one reading: there
+// The lowest word of a table that is wrong in the image, and the number of words where none is. Every word up to there is read, two in one reading: there
 // is an even number of them.
 fn first_wrong(image: &[u8], table: Quotients) -> u32
     requires { ⌜ AreWords table ⌝ }

@@ -14,7 +14,7 @@ use Rattle.interpolation.proofs.Pieces as pieces
 abbrev pub numeratorOf : ℕ → ℕ → ℕ
 numeratorOf A K = 2 * A * (K * K * K)
 
--- node c(j) belongs to i = K + j; `room` follows from what document 02 calls sound
+-- node c(j) belongs to i = K + j; `room` says that the excess E of a piece leaves enough of an ulp
 pub record Table (A B K : ℕ) (c E D : ℕ → ℕ) : Type 0 where
   pub units : 0 < A
   pub steps : 0 < B

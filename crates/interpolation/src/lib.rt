@@ -1,1 +1,1 @@
-// Interpolation between two nodes: what it is stands in specs/ (Algorithm 2), and that it is right to the last place in proofs/. No code.
+// Interpolation between two nodes: what it is stands in specs/ (Algorithm 2), and that R is less than one ulp off in proofs/. No code.

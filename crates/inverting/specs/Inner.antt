@@ -40,15 +40,15 @@ pub record IsPiece (c c' f w : ℕ) : Type 0 where
 abbrev pub bothIn : ℕ → ℕ → ℕ
 bothIn k window = window / 2 ^ (64 - 2 * wordWidth k)
 
--- what the upper of the two words stands for, at the lower end of t's piece
+-- what the first word, in the high bits, stands for: node j, at the lower end of t's piece
 abbrev pub lowerEnd : ℕ → ℕ → ℕ → ℕ
 lowerEnd k both t = decodeUnder (leadingOne k) (nodeNumber k t) (both / 2 ^ wordWidth k)
 
--- and the lower one, at its upper end
+-- what the second word, in the low bits, stands for: node j + 1, at its upper end
 abbrev pub upperEnd : ℕ → ℕ → ℕ → ℕ
 upperEnd k both t = decodeUnder (leadingOne k) (nodeNumber k t + 1) (both % 2 ^ wordWidth k)
 
--- c passes for node j
+-- c is the quotient of node j rounded up, by a product
 abbrev pub passes : ℕ → ℕ → ℕ → Bool
 passes k j c = roundsUp (numerator k) (2 ^ k + j) c
 

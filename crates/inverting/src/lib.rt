@@ -10,7 +10,7 @@ use precision::Precision;
 use units::TableUnits;
 use units::Ulps;
 
-// R between the nodes lower and upper: f is the fraction of their piece, of as many bits, and so many bits of P are chopped off.
+// R between the nodes lower and upper: f, of `fraction_bits` bits, is the fraction of their piece, and `chopped_bits` bits of P are chopped off.
 fn interpolated(
     lower: TableUnits,
     upper: TableUnits,

@@ -3,8 +3,7 @@
 use mathlib.Core.Path.{_≡_, refl, sym, ap, _∙_}
 use mathlib.Core.Bool.{Bool, true, false, cond}
 use Prim.Native.Nat.{ℕ, _^_, _≤_, _<_}
-use Rattle.precision.specs.Precision.{inRange}
-use Rattle.precision.specs.Inner.{wordsOr0}
+use Rattle.precision.specs.Precision.{inRange, wordsOr0}
 use Rattle.precision.proofs.Range.{Counted, counted, no-words}
 use Rattle.nodes.specs.Inner.{quotientsOf, quotientsOr0}
 use Rattle.nodes.specs.declared.Quotients.{Quotients}

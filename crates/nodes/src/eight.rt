@@ -274,7 +274,7 @@ pub fn node_8(j: u32) -> TableUnits
     TableUnits(wide(NODES_8[j as usize]))
 }
 
-// An entry in 64 bits.
+// An entry in 64 bits. In a function of its own, so that the reading of the entry asks for the index alone.
 fn wide(entry: u32) -> u64
     ensures { λ r. ⌜ r ≡ entry ⌝ }
 {

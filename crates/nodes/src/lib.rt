@@ -57,8 +57,8 @@ pub fn value(k: Precision, j: u32) -> TableUnits
     TableUnits(quotient::rounded_up(t.numerator, t.first + j))
 }
 
-// What a word at node j stands for under a leading one; a zero word at node 0 means twice that. Whether it is the node's, `quotient::rounds_up`
-// tells of what it stands for.
+// What a word at node j stands for under a leading one; a zero word at node 0 means twice that. Whether the value is the
+// node's, `quotient::rounds_up` tells.
 pub fn decoded(lead: u32, j: u32, word: u32) -> TableUnits
     ensures { λ r. ⌜ r .0 ≡ decodeUnder lead j word ⌝ }
 {

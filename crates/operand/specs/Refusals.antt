@@ -1,4 +1,4 @@
--- The refusals of an operand, each a definition of its own (document 01, "Turned back, in checking order").
+-- The refusals of an operand (document 01, "Turned back, in checking order").
 -- Assumes nothing.
 use Prim.Native.Nat.{ℕ}
 use mathlib.Core.Bool.{not}

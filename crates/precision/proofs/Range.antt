@@ -8,8 +8,7 @@ use native.Mathlib.Omega.{arith}
 use lib.Dec.{leb}
 use lib.Pow.{pow-pos}
 use borrow.Author.Tests.{leb-true, le-leb}
-use Rattle.precision.specs.Precision.{inRange, least, greatest, wordCount}
-use Rattle.precision.specs.Inner.{wordsOr0}
+use Rattle.precision.specs.Precision.{inRange, least, greatest, wordCount, wordsOr0}
 
 -- what the test passes is from 1 to 12
 pub in-range : (k : ℕ) → inRange k ≡ true → (1 ≤ k) × (k ≤ 12)

@@ -1,2 +1,1 @@
 pub mod Precision
-pub mod Inner

@@ -40,3 +40,7 @@ longestImage = imageLength greatest
 -- the bytes of an image, and 0 where k is no precision
 abbrev pub lengthOr0 : ℕ → ℕ
 lengthOr0 k = cond (inRange k) (imageLength k) 0
+
+-- the words of an image, and 0 where k is no precision
+abbrev pub wordsOr0 : ℕ → ℕ
+wordsOr0 k = cond (inRange k) (wordCount k) 0

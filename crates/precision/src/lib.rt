@@ -1,7 +1,6 @@
 // The notion of a precision: its limits, the width of a word and the length of an image.
 ghost use mathlib.Core.Path.{_≡_};
-ghost use Rattle.precision.specs.Precision.{least, greatest, longestImage, inRange, wordWidth, lengthOr0};
-ghost use Rattle.precision.specs.Inner.{wordsOr0};
+ghost use Rattle.precision.specs.Precision.{least, greatest, longestImage, inRange, wordWidth, lengthOr0, wordsOr0};
 
 // A precision as it is asked for. Any number can be asked for; 1 to 12 are served.
 pub struct Precision(pub u32);

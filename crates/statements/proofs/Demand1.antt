@@ -36,7 +36,8 @@ use denote.Ref.{RefT, now}
 use Rattle.precision.specs.Precision.{imageLength}
 use Rattle.precision.specs.declared.Precision.{Precision}
 use Rattle.nodes.specs.Nodes.{node}
-use Rattle.answers.proofs.Order.{isOneOf, listed, avoided, first, later, placed, value-of-0, refused-value, served-value}
+use Rattle.answers.specs.Refusal.{isOneOf}
+use Rattle.answers.proofs.Order.{listed, avoided, first, later, placed, value-of-0, refused-value, served-value}
 use Rattle.layout.specs.Refusals.{imageRefusal, wordRefusal}
 use Rattle.image.specs.Image.{plain, nodeOf}
 use Rattle.image.specs.Refusals.{nodeRefusal}

@@ -5,9 +5,9 @@
 --    node-between, node-leading-one, node-step. Those of precision 8 from the constant list: node-8-listed, no-node-8.
 -- 2. With two table guard bits: a node is counted in table units, two bits finer than the ulps of R: ulp-in-table-units, one-in-both-units,
 --    first-node-is-one, exact-in-table-units.
--- 3. The image is that of these nodes: its length image-bytes, image-whole, length-listed, no-length; its words built-word; its bits image-bit. The builder leaves it at
---    the front of the buffer: built-front. What a word of any bytes is: word-below, word-bit; what a zero word is: zero-word-first,
---    zero-word-wrong.
+-- 3. The image is that of these nodes: its length length-eighth, image-bytes, image-whole, length-listed, no-length; its words built-word; its bits
+--    image-bit. The builder leaves it at the front of the buffer: built-front. What a word of any bytes is: word-below, word-bit; what a zero
+--    word is: zero-word-first, zero-word-wrong.
 -- 4. The reciprocal is that of Algorithm 2: step-t, step-i, step-j, step-f, step-P, step-R, with line-P and differences. The call gives it from
 --    every image that was built (built-gives), and gives no other from any image (given-is-R, in Demand3).
 -- 5. With three input guard bits: t keeps 2k + 3 fraction bits of the operand, three more than 2k (step-t); k of them go to i and k + 3 to f
@@ -18,9 +18,13 @@
 -- 8. For all contents: what a buffer s holds, also before it is built, is any list of numbers. Only word-bit and check-passes-bytes ask that
 --    these are bytes.
 --
--- Each theorem assumes no more than ranges of its numbers: that k is a precision, that n is from 2k + 3 to 63, that X is normalised, that a
--- buffer is long enough, that its elements are bytes; and, where two buffers are compared or a wrong word is named, which of their words or
--- bytes agree or are wrong. Which words and bytes a call reads is said by what its answer depends on (docs/DECISIONS.md, "Reading").
+-- Which words and bytes a call reads is said by what its answer depends on (docs/DECISIONS.md, "Reading"): node-by-its-word, check-by-words,
+-- reciprocal-by-words, reciprocal-by-lower-word, word-by-its-bytes; none past the image: check-by-image, node-by-image, reciprocal-by-image,
+-- part-by-image, part-place-by-image. The reciprocal reads both words, whatever f is: lower-word-named, upper-word-named, upper-word-named-at-0.
+--
+-- Each theorem assumes no more than ranges of its numbers: that k is a precision or from 1 on, that n is from 2k + 3 to 63, that X is
+-- normalised, that a buffer is long enough, that its elements are bytes; and, where two buffers are compared or a wrong word is named, which
+-- of their words or bytes agree or are wrong.
 use mathlib.Core.Path.{_≡_, refl, _∙_}
 use mathlib.Core.Logic.{_↔_}
 use mathlib.Core.List.{List}
@@ -152,15 +156,19 @@ module _ (k n X : ℕ) where
   pub differences : 2 * k + 3 ≤ n → IsNormalised n X → (2 ^ k + j ≡ i) × (j < 2 ^ k) × (c (j + 1) ≤ c j) × ((c j - c (j + 1)) * f ≤ c j * 2 ^ (k + 3))
   differences = Reciprocals.differences k n X
 
--- The image.
-module _ (k : ℕ) (p : IsPrecision k) where
-  -- it has 2^k × (2k + 2) / 8 bytes, and these are whole
+-- The image has 2^k × (2k + 2) / 8 bytes, and these are whole, for every k from 1.
+module _ (k : ℕ) (one : 1 ≤ k) where
+  pub length-eighth : imageLength k ≡ 2 ^ k * (2 * k + 2) / 8
+  length-eighth = eighth-of-bits k one
+
   pub image-bytes : length (image k) ≡ 2 ^ k * (2 * k + 2) / 8
-  image-bytes = layouts.image-length (plain k) ∙ eighth-of-bits k (p .0)
+  image-bytes = layouts.image-length (plain k) ∙ length-eighth
 
   pub image-whole : 8 * (2 ^ k * (2 * k + 2) / 8) ≡ 2 ^ k * (2 * k + 2)
-  image-whole = eighths k (p .0)
+  image-whole = eighths k one
 
+-- What it holds.
+module _ (k : ℕ) (p : IsPrecision k) where
   -- the builder writes it at the front of the buffer, whatever stood there before: it reads none of it
   pub built-front : (s : List ℕ) → IsLongEnough k s → take (imageLength k) (buildLeaves k s) ≡ image k
   built-front s l = Built.front k s p l
@@ -264,7 +272,7 @@ module _ (k : ℕ) (s : List ℕ) where
 -- What the calls for an image length and for a node of precision 8 give, each read from a constant list: the formula, and 0 where there is none.
 module _ (k : ℕ) where
   pub length-listed : IsPrecision k → lengthOr0 k ≡ 2 ^ k * (2 * k + 2) / 8
-  length-listed p = rw (range-in k (p .0) (p .1)) (eighth-of-bits k (p .0))
+  length-listed p = rw (range-in k (p .0) (p .1)) (length-eighth k (p .0))
 
   pub no-length : (IsPrecision k → ⊥) → lengthOr0 k ≡ 0
   no-length f = rw (failed (inRange k) (no-precision k .1 f))

@@ -11,6 +11,10 @@
 -- 5. Bits that are written to the right of X do not change R: longer-reciprocal. Up to 63 in all they do not change the answer from the same
 --    image, in one equation for number, place and value: longer-answer. Both are of every X, normalised or not.
 --
+-- Beside the demand: R runs from 2^(2k) to 2^(2k+1) and reaches both ends: reciprocal-from, reciprocal-to, reciprocal-of-least,
+-- reciprocal-of-greatest. The sizes of document 002's Lemma 1, and what fits 64 bits: node-difference, fraction-below, product-below,
+-- first-product-fits, second-product-fits, product-sum-fits.
+--
 -- `reciprocal k n X` is R (Demand2 has its steps), and `reciprocalOutcome k s n X` is the answer of the call.
 use mathlib.Core.Path.{_≡_, refl}
 use mathlib.Core.List.{List}

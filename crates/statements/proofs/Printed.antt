@@ -1,8 +1,14 @@
--- The printed table (document 01). "The program reads standard input: a precision in 1 to 9 decimal digits, leading zeros allowed, then
--- one line feed and no more. Other input counts as precision 0. Each printed line ends in a line feed."
+-- The printed table, in our own words, each with what settles it; all theorems stand on this page.
 --
--- tableText is the definition that the promise of `table_text::print` cites; digits are bytes. The text that document 01 gives in full is
--- in specs/Examples.antt.
+-- 1. Input that is 1 to 9 decimal digits, leading zeros among them, and one line feed asks for the precision that they stand for:
+--    digits-request, number-requests. All other input counts as precision 0: request-digits.
+-- 2. A precision gets its table, the first line and the lines of nodes 0 to 2^k: prints-table. Any other number, and input that is not such a
+--    line, gets `refused 1`: prints-refusal, other-input. Numbers are printed in decimal: printed-digits.
+-- 3. Each line ends in a line feed: node-line, first-line, refusal-line.
+-- 4. The program reads enough of its input, and its buffer is long enough: prefix-settles, text-has-room.
+--
+-- tableText is the definition that the promise of `table_text::print` cites; digits are bytes. The text for precision 2 in full is in
+-- specs/Examples.antt.
 use mathlib.Core.Path.{_≡_}
 use mathlib.Core.Bool.{true}
 use mathlib.Core.List.{List, [], _∷_, _++_, List·Memᴰ}
@@ -42,13 +48,13 @@ prints-table d e l p =
 pub prints-refusal : (d : List ℕ) → isDigits d ≡ true → length d ≤ 9 → (IsPrecision (decimalValue d) → ⊥) → tableText (d ++ lineFeed ∷ []) ≡ refusedText 1
 prints-refusal d e l f = Requests.text-out-of-range (d ++ lineFeed ∷ []) (rw (digits-request d e l) f)
 
--- the digits that are printed for a number stand for it
-pub printed-digits : (n : ℕ) → n < 10 ^ 20 → (isDigits (decimal n) ≡ true) × (decimalValue (decimal n) ≡ n)
-printed-digits n h = (decimal-digits n, value-decimal n h)
-
 -- so is input that is not 1 to 9 digits and a line feed
 pub other-input : (s : List ℕ) → ((d : List ℕ) → isDigits d ≡ true → length d ≤ 9 → s ≡ d ++ lineFeed ∷ [] → ⊥) → tableText s ≡ refusedText 1
 other-input = Requests.text-of-other
+
+-- the digits that are printed for a number stand for it
+pub printed-digits : (n : ℕ) → n < 10 ^ 20 → (isDigits (decimal n) ≡ true) × (decimalValue (decimal n) ≡ n)
+printed-digits n h = (decimal-digits n, value-decimal n h)
 
 -- each printed line ends in a line feed and has no other: the line of a node, the first line, the refusal
 pub node-line : (k j : ℕ) → (t : List ℕ) × (line k j ≡ t ++ lineFeed ∷ []) × (List·Memᴰ lineFeed t → ⊥)

@@ -46,7 +46,7 @@ pub extern "C" fn yildegga_node(k: u32, image: &[u8], j: u32) -> NodeRead
     reading::node(Precision(k), image, j)
 }
 
-// Node j of precision 8 by the constant table, with no image lent, 0 where j is above 256.
+// Node j of precision 8 by the constant list, with no image lent, 0 where j is above 256.
 #[no_mangle]
 pub extern "C" fn yildegga_node_8(j: u32) -> TableUnits
     ensures { λ r. ⌜ r .0 ≡ nodeOr0 8 j ⌝ }

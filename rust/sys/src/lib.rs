@@ -88,7 +88,7 @@ pub fn node(k: u32, image: &[u8], j: u32) -> Answer {
     unsafe { yildegga_node(k, image.as_ptr(), image.len(), j) }
 }
 
-/// Node j of precision 8, by the table of constants.
+/// Node j of precision 8, by the list of constants.
 #[inline]
 pub fn node_8(j: u32) -> TableUnits {
     // SAFETY: it takes a number alone.
