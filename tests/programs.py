@@ -202,7 +202,7 @@ def document_examples():
 
 
 def document_cases(output):
-    """tests/document01.txt has the cases of document 01 for reciprocals, in its words, as `cases` must print them, and says where their
+    """tests/document01.txt has the cases of document 01 for reciprocals, as `cases` must print them, and says where their
     answers are from. It must be printed as it stands, with no line between and none after its last case."""
     document = (ROOT / "tests" / "document01.txt").read_bytes()
     cases = re.findall(rb"^#.*\n(?!#)", document, re.M)
