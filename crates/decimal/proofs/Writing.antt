@@ -10,8 +10,8 @@ use native.Mathlib.Omega.{arith}
 use lib.ListN.{length, take, drop, set, length-append, length-drop, take-append-drop}
 use lib.Seq.{length-take-le, take-at, drop-append-add, drop-drop, set-split, paste, take-length, append-snoc}
 use borrow.Author.Tests.{le-leb, lt-leb, leb-true, leb-false, not-true, not-false}
-use Rattle.decimal.specs.Text.{written, hasRoom, putInto, placeAfter}
-use Rattle.decimal.specs.Inner.{Wrote}
+use Rattle.decimal.specs.Text.{written}
+use Rattle.decimal.specs.Inner.{hasRoom, putInto, placeAfter, Wrote}
 
 module _ (s : List ℕ) (at : ℕ) (t : List ℕ) (fits : at + length t ≤ length s) where
   -- what stands up to the end of the text

@@ -2,7 +2,8 @@
 ghost use mathlib.Core.Path.{_≡_};
 ghost use Prim.Native.Nat.{_+_, _≤_};
 ghost use lib.ListN.{length};
-ghost use Rattle.decimal.specs.Text.{written, hasRoom, putInto, placeAfter};
+ghost use Rattle.decimal.specs.Text.{written};
+ghost use Rattle.decimal.specs.Inner.{hasRoom, putInto, placeAfter};
 ghost use Rattle.decimal.specs.Decimal.{decimal, mostDigits};
 ghost use Rattle.decimal.specs.Reading.{reading};
 

@@ -14,7 +14,7 @@ use Rattle.image.specs.Image.{plain, nodeOf}
 use Rattle.image.proofs.Judging.{right-node}
 use Rattle.interpolation.specs.Algorithm.{nodeNumber, fraction, productSum, chopped, cutReciprocal}
 use Rattle.interpolation.specs.Reciprocal.{readReciprocal}
-use Rattle.interpolation.specs.Calls.{cutOutcome}
+use Rattle.interpolation.specs.Inner.{cutOutcome}
 
 module _ (k : ℕ) (s : List ℕ) (t : ℕ) where
   -- the word of node j is wrong

@@ -16,10 +16,6 @@ use Rattle.interpolation.specs.Reciprocal.{readReciprocal}
 abbrev pub cutRefusals : ℕ → List ℕ → ℕ → List Refusal
 cutRefusals k s t = wordRefusal (plain k) s (nodeNumber k t) ∷ wordRefusal (plain k) s (nodeNumber k t + 1) ∷ []
 
--- what a cut operand t is answered with, where k and the buffer keep their limits
-abbrev pub cutOutcome : ℕ → List ℕ → ℕ → Outcome
-cutOutcome k s t = outcome (cutRefusals k s t) (readReciprocal k s t)
-
 -- the refusals of the reciprocal, in checking order: 1, 2, 4, 5 and 6
 abbrev pub reciprocalRefusals : ℕ → List ℕ → ℕ → ℕ → List Refusal
 reciprocalRefusals k s n X = limits k (length s) ++ fractionRefusal k n ∷ operandRefusal n X ∷ cutRefusals k s (cutOperand k n X)

@@ -1,3 +1,4 @@
 pub mod Algorithm
 pub mod Reciprocal
 pub mod Calls
+pub mod Inner

@@ -15,7 +15,7 @@ use Rattle.image.specs.Image.{plain}
 use Rattle.image.proofs.Limits.{ImageKept}
 use Rattle.image.proofs.OwnBytes.{own-bytes}
 use Rattle.interpolation.specs.Algorithm.{nodeNumber, fraction, productSum, chopped}
-use Rattle.interpolation.specs.Calls.{cutOutcome}
+use Rattle.interpolation.specs.Inner.{cutOutcome}
 use Rattle.interpolation.proofs.Cut.{cut-number-below}
 use Rattle.interpolation.proofs.BothWords as words
 use Rattle.interpolation.proofs.Answers.{first-wrong, next-wrong, none-wrong}

@@ -7,7 +7,8 @@ use native.Mathlib.Omega.{arith}
 use lib.ListN.{length, length-append}
 use Rattle.decimal.specs.Decimal.{decimal}
 use Rattle.decimal.proofs.Laws.{length-decimal, length-decimal-below}
-use Rattle.lines.specs.Lines.{field, longestField, refusedText, longestRefusal, lineFeed}
+use Rattle.lines.specs.Lines.{field, refusedText, lineFeed}
+use Rattle.lines.specs.Inner.{longestField, longestRefusal}
 
 length-field : (n b : ℕ) → length (field n b) ≡ length (decimal n) + 1
 unfolding field

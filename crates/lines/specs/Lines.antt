@@ -5,7 +5,7 @@ use mathlib.Core.Bool.{Bool, cond, _&&_}
 use mathlib.Core.List.{List, [], _∷_, _++_}
 use lib.Dec.{leb, eqb}
 use lib.ListN.{length, take, getD}
-use Rattle.decimal.specs.Decimal.{decimal, mostDigits}
+use Rattle.decimal.specs.Decimal.{decimal}
 use Rattle.decimal.specs.Reading.{reading}
 use Rattle.decimal.specs.declared.Reading.{Reading}
 use Rattle.decimal.specs.declared.Reading.the-variants.{Number, Other}
@@ -37,10 +37,6 @@ numberOr0 Other = 0
 unfoldable pub field : ℕ → ℕ → List ℕ
 field n b = decimal n ++ (b ∷ [])
 
--- the most bytes that these are, for a number of 64 bits
-abbrev pub longestField : ℕ
-longestField = mostDigits + 1
-
 -- "refused "
 abbrev pub refusedTitle : List ℕ
 refusedTitle = 114 ∷ 101 ∷ 102 ∷ 117 ∷ 115 ∷ 101 ∷ 100 ∷ space ∷ []
@@ -48,7 +44,3 @@ refusedTitle = 114 ∷ 101 ∷ 102 ∷ 117 ∷ 115 ∷ 101 ∷ 100 ∷ space ∷
 -- "refused ", the number of a refusal and a line feed
 abbrev pub refusedText : ℕ → List ℕ
 refusedText number = refusedTitle ++ field number lineFeed
-
--- the most bytes that this is, for a number of 64 bits
-abbrev pub longestRefusal : ℕ
-longestRefusal = length refusedTitle + longestField

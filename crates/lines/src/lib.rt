@@ -1,7 +1,8 @@
 // Lines of text for programs: a number read from a line, a number written with a byte behind it, and the line of a refusal.
 ghost use mathlib.Core.Path.{_≡_};
-ghost use Rattle.decimal.specs.Text.{putInto, placeAfter};
-ghost use Rattle.lines.specs.Lines.{lineReading, field, longestField, refusedText, longestRefusal};
+ghost use Rattle.decimal.specs.Inner.{putInto, placeAfter};
+ghost use Rattle.lines.specs.Lines.{lineReading, field, refusedText};
+ghost use Rattle.lines.specs.Inner.{longestField, longestRefusal};
 use decimal::Reading;
 
 // The most bytes that a number of 64 bits and the byte behind it are.

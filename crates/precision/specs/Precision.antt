@@ -29,7 +29,7 @@ lastNode k = 2 ^ k
 abbrev pub wordCount : ℕ → ℕ
 wordCount k = lastNode k
 
--- the bytes of an image, which its words fill (2^k × (2k + 2) / 8 of them: `image-bytes` and `image-whole` in Demand2)
+-- the bytes of an image, which its words fill (2^k × (2k + 2) / 8 of them: `length-eighth` in Demand2)
 abbrev pub imageLength : ℕ → ℕ
 imageLength k = byteCount (wordWidth k) (wordCount k)
 

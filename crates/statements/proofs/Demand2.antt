@@ -2,7 +2,7 @@
 -- is named.
 --
 -- 1. The nodes are those of Algorithm 1, 2^(3k+3) / i rounded up: node-reaches, node-least; their sizes and order: first-node, last-node,
---    node-between, node-leading-one, node-step. Those of precision 8 from the constant list: node-8-listed, no-node-8.
+--    node-between, node-leading-one, node-step. What the call on the constant list of precision 8 gives: node-8-listed, no-node-8.
 -- 2. With two table guard bits: a node is counted in table units, two bits finer than the ulps of R: ulp-in-table-units, one-in-both-units,
 --    first-node-is-one, exact-in-table-units.
 -- 3. The image is that of these nodes: its length length-eighth, image-bytes, image-whole, length-listed, no-length; its words built-word; its bits

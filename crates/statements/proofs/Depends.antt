@@ -31,7 +31,8 @@ use Rattle.operand.specs.Inner.{operandNumber}
 use Rattle.operand.proofs.Limits.{operand-refuses, operand-passes, operand-kept}
 use Rattle.interpolation.specs.Algorithm.{nodeNumber}
 use Rattle.interpolation.specs.Reciprocal.{readReciprocal}
-use Rattle.interpolation.specs.Calls.{cutRefusals, cutOutcome, reciprocalOutcome}
+use Rattle.interpolation.specs.Calls.{cutRefusals, reciprocalOutcome}
+use Rattle.interpolation.specs.Inner.{cutOutcome}
 use Rattle.statements.specs.Terms.{IsPrecision, IsLongEnough}
 use Rattle.statements.proofs.Reciprocals.{has-word}
 use Rattle.statements.proofs.Parts.{shown-empty, shown-length, shown-bytes}

@@ -22,7 +22,8 @@ use Rattle.operand.proofs.Laws.{cut-normalised, cut-greatest}
 use Rattle.operand.proofs.Limits.{operand-passes, operand-none}
 use Rattle.interpolation.specs.Algorithm.{index, nodeNumber, fraction}
 use Rattle.interpolation.specs.Reciprocal.{readReciprocal, reciprocal}
-use Rattle.interpolation.specs.Calls.{cutRefusals, cutOutcome, reciprocalOutcome}
+use Rattle.interpolation.specs.Calls.{cutRefusals, reciprocalOutcome}
+use Rattle.interpolation.specs.Inner.{cutOutcome}
 use Rattle.interpolation.proofs.Bound.{reciprocal-low}
 use Rattle.interpolation.proofs.Answers.{first-wrong, next-wrong, none-wrong, read-right as gives-R}
 use Rattle.interpolation.proofs.Cut.{cut-index, cut-number-below, cut-node-falls, cut-fraction-below, difference-most, cut-reciprocal-least, cut-reciprocal-most, cut-reciprocal-last}

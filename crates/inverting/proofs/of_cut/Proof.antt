@@ -18,7 +18,7 @@ use Rattle.image.proofs.Limits.{ImageKept, limit-none, limit-kept}
 use Rattle.image.proofs.OwnBytes.{own-bytes}
 use Rattle.interpolation.specs.Algorithm.{nodeNumber}
 use Rattle.interpolation.proofs.Cut.{cut-index-least, cut-index-most, cut-number-below}
-use Rattle.interpolation.specs.Calls.{cutOutcome}
+use Rattle.interpolation.specs.Inner.{cutOutcome}
 use Rattle.inverting.specs.Inner.{bothIn, endsOutcome, outcomeOf}
 use Rattle.inverting.proofs.Ends.{bothWords, ends-of-cut, code-served, code-wrong}
 use Rattle.inverting.proofs.of_cut.Statement.{statement}

@@ -17,7 +17,8 @@ use Rattle.operand.specs.Inner.{operandNumber}
 use Rattle.operand.proofs.Laws.{cut-normalised}
 use Rattle.operand.proofs.Limits.{operand-refuses, operand-passes, operand-kept}
 use Rattle.interpolation.specs.Reciprocal.{readReciprocal}
-use Rattle.interpolation.specs.Calls.{cutRefusals, cutOutcome, reciprocalOutcome}
+use Rattle.interpolation.specs.Calls.{cutRefusals, reciprocalOutcome}
+use Rattle.interpolation.specs.Inner.{cutOutcome}
 use Rattle.inverting.specs.Inner.{IsCut}
 use Rattle.inverting.proofs.reciprocal.Statement.{statement}
 use Rattle.inverting.proofs.reciprocal.Tie as tie

@@ -7,11 +7,12 @@ use native.Mathlib.Omega.{arith}
 use borrow.Author.Needs.{needs}
 use borrow.Author.Tests.{le-leb}
 use lib.ListN.{length}
-use Rattle.decimal.specs.Text.{placeAfter}
+use Rattle.decimal.specs.Inner.{placeAfter}
 use Rattle.decimal.specs.Decimal.{decimal, mostDigits}
 use Rattle.decimal.proofs.Laws.{length-decimal}
 use Rattle.decimal.proofs.Writing.{room-fits, room-lacks, put-none, put-some, wrote-room, wrote-byte}
-use Rattle.lines.specs.Lines.{field, longestField}
+use Rattle.lines.specs.Lines.{field}
+use Rattle.lines.specs.Inner.{longestField}
 use Rattle.lines.proofs.put.Statement.{statement}
 use Rattle.lines.proofs.put.Tie as tie
 

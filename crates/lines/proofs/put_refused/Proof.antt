@@ -4,7 +4,8 @@ use mathlib.Core.Path.{refl}
 use native.Mathlib.Omega.{arith}
 use borrow.Author.Needs.{needs}
 use Rattle.decimal.proofs.Writing.{room-fits, room-lacks, put-none, put-some, wrote-room, wrote-more}
-use Rattle.lines.specs.Lines.{field, lineFeed, longestField, refusedTitle, refusedText, longestRefusal}
+use Rattle.lines.specs.Lines.{field, lineFeed, refusedTitle, refusedText}
+use Rattle.lines.specs.Inner.{longestField, longestRefusal}
 use Rattle.lines.proofs.put_refused.Statement.{statement}
 use Rattle.lines.proofs.put_refused.Tie as tie
 

@@ -3,7 +3,8 @@
 use native.Mathlib.Omega.{arith}
 use borrow.Author.Needs.{needs}
 use Rattle.decimal.proofs.Writing.{wrote-more, wrote-room}
-use Rattle.lines.specs.Lines.{space, field, longestField}
+use Rattle.lines.specs.Lines.{space, field}
+use Rattle.lines.specs.Inner.{longestField}
 use Rattle.lines.proofs.Sizes.{field-most}
 use Rattle.table_text.proofs.columns.Statement.{statement}
 use Rattle.table_text.proofs.columns.Tie as tie

@@ -7,7 +7,8 @@ use borrow.Author.Tests.{le-leb, lt-leb, not-true, not-false}
 use lib.ListN.{length}
 use Rattle.decimal.proofs.Writing.{wrote-room}
 use Rattle.precision.specs.Precision.{inRange}
-use Rattle.lines.specs.Lines.{refusedText, longestRefusal}
+use Rattle.lines.specs.Lines.{refusedText}
+use Rattle.lines.specs.Inner.{longestRefusal}
 use Rattle.table_text.specs.TableText.{longestText, precisionOf, printed, printedLength}
 use Rattle.table_text.proofs.LineLaws.{text-refused, text-table}
 use borrow.Author.Needs.{needs}

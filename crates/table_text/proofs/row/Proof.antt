@@ -3,7 +3,8 @@
 use native.Mathlib.Omega.{arith}
 use borrow.Author.Needs.{needs}
 use Rattle.decimal.proofs.Writing.{wrote-more, wrote-room}
-use Rattle.lines.specs.Lines.{lineFeed, field, longestField}
+use Rattle.lines.specs.Lines.{lineFeed, field}
+use Rattle.lines.specs.Inner.{longestField}
 use Rattle.table_text.proofs.Sizes.{columns-most}
 use Rattle.table_text.proofs.row.Statement.{statement}
 use Rattle.table_text.proofs.row.Tie as tie

@@ -4,7 +4,8 @@ use native.Mathlib.Omega.{arith}
 use borrow.Author.Needs.{needs}
 use lib.ListN.{length}
 use Rattle.decimal.proofs.Writing.{wrote-more, wrote-room}
-use Rattle.lines.specs.Lines.{field, longestField}
+use Rattle.lines.specs.Lines.{field}
+use Rattle.lines.specs.Inner.{longestField}
 use Rattle.table_text.proofs.titled.Statement.{statement}
 use Rattle.table_text.proofs.titled.Tie as tie
 
