@@ -79,11 +79,11 @@ answer CALL(reciprocal)(uint32_t k, const uint8_t *image, size_t length, uint32_
     uint32_t number = broken(k, length);
     if (number != 0)
         return refused(number);
-    if (n < 2 * k + 3 || 63 < n)
+    if (n < 1 || 63 < n)
         return refused(4);
     if (x >> n != 1)
         return refused(5);
-    uint64_t t = x >> (n - 2 * k - 3), f = t & (((uint64_t)8 << k) - 1);
+    uint64_t t = n < 2 * k + 3 ? x << (2 * k + 3 - n) : x >> (n - 2 * k - 3), f = t & (((uint64_t)8 << k) - 1);
     uint32_t j = (uint32_t)(t >> (k + 3)) - (1u << k);
     uint64_t lower = judged(k, image, j);
     if (lower == 0)

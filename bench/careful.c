@@ -77,12 +77,11 @@ answer CALL(reciprocal)(uint32_t k, const uint8_t *image, size_t length, uint32_
     size_t bytes = width * count / 8;
     if (length < bytes)
         return refused(2);
-    uint32_t cut = n - (2 * k + 3);
-    if (63 - (2 * k + 3) < cut)
+    if (62 < n - 1)
         return refused(4);
-    uint64_t t = x >> cut, i = t >> (k + 3), j = i - count, f = t & (8 * count - 1);
-    if (count <= j)
+    if (x >> n != 1)
         return refused(5);
+    uint64_t top = x << (63 - n), i = top >> (63 - k), j = i - count, f = top >> (60 - 2 * k) & (8 * count - 1);
     uint64_t both = bits_from(image, bytes, j * width) >> (64 - 2 * width);
     uint64_t lower = decoded(both >> width, lead), upper = lead + (both & (lead - 1)), numerator = 2 * count * lead;
     if (!right(lower, i, numerator))

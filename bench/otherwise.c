@@ -55,12 +55,11 @@ kept_table kept_bind(uint32_t k, const uint8_t *image, size_t length)
 static inline __attribute__((always_inline)) answer within(const uint8_t *image, size_t bytes, uint32_t k, uint64_t width, uint64_t count,
                                                            uint64_t lead, uint64_t numerator, uint32_t n, uint64_t x)
 {
-    uint32_t cut = n - (2 * k + 3);
-    if (63 - (2 * k + 3) < cut)
+    if (62 < n - 1)
         return (answer){4, 0, 0};
-    uint64_t t = x >> cut, i = t >> (k + 3), j = i - count, f = t & (8 * count - 1);
-    if (count <= j)
+    if (x >> n != 1)
         return (answer){5, 0, 0};
+    uint64_t top = x << (63 - n), i = top >> (63 - k), j = i - count, f = top >> (60 - 2 * k) & (8 * count - 1);
     uint64_t both = bits_from(image, bytes, j * width) >> (64 - 2 * width);
     uint64_t lower = decoded(both >> width, lead), upper = lead + (both & (lead - 1));
     if (!right(lower, i, numerator))

@@ -1,7 +1,7 @@
 -- The numbers of a table with a table guard bits and b input guard bits, as powers of two.
 -- Assumes nothing.
-use mathlib.Core.Path.{_≡_, ap, _∙_}
-use Prim.Native.Nat.{ℕ, _+_, _-_, _*_, _^_, _≤_}
+use mathlib.Core.Path.{_≡_, sym, ap, _∙_}
+use Prim.Native.Nat.{ℕ, _+_, _-_, _*_, _^_}
 use native.Mathlib.Omega.{arith}
 use lib.Pow.{pow-add}
 
@@ -34,10 +34,11 @@ module _ (k a b : ℕ) where
       ∙ pow-add 2 (2 * k + b) 1
       ∙ omega (arith, least)
 
-  -- N, and N × 2^(n-2k-b)
-  pub exact : (n : ℕ) → 2 * k + b ≤ n → 2 ^ (n + 2 * k + 1) ≡ 2 * 2 ^ b * (2 ^ k * 2 ^ k * 2 ^ k * 2 ^ k) * 2 ^ (n - (2 * k + b))
-  exact n h =
-      ap (λ (e : ℕ). 2 ^ e) {x = n + 2 * k + 1} {y = (k + (b + 1) + 3 * k) + (n - (2 * k + b))} (omega arith)
+  -- N, and N × 2^(n-2k-b), by which an operand that is padded by 2k + b - n bits is measured
+  pub exact : (n : ℕ) → 2 ^ (n + 2 * k + 1) * 2 ^ (2 * k + b - n) ≡ 2 * 2 ^ b * (2 ^ k * 2 ^ k * 2 ^ k * 2 ^ k) * 2 ^ (n - (2 * k + b))
+  exact n =
+      sym (pow-add 2 (n + 2 * k + 1) (2 * k + b - n))
+      ∙ ap (λ (e : ℕ). 2 ^ e) {x = n + 2 * k + 1 + (2 * k + b - n)} {y = (k + (b + 1) + 3 * k) + (n - (2 * k + b))} (omega arith)
       ∙ pow-add 2 (k + (b + 1) + 3 * k) (n - (2 * k + b))
       ∙ ap (λ (x : ℕ). x * 2 ^ (n - (2 * k + b))) all
     where

@@ -18,7 +18,7 @@ cutRefusals k s t = wordRefusal (plain k) s (nodeNumber k t) ∷ wordRefusal (pl
 
 -- the refusals of the reciprocal, in checking order: 1, 2, 4, 5 and 6
 abbrev pub reciprocalRefusals : ℕ → List ℕ → ℕ → ℕ → List Refusal
-reciprocalRefusals k s n X = limits k (length s) ++ fractionRefusal k n ∷ operandRefusal n X ∷ cutRefusals k s (cutOperand k n X)
+reciprocalRefusals k s n X = limits k (length s) ++ fractionRefusal n ∷ operandRefusal n X ∷ cutRefusals k s (cutOperand k n X)
 
 -- the answer of the reciprocal; it gives R by the words that it reads, in ulps
 abbrev pub reciprocalOutcome : ℕ → List ℕ → ℕ → ℕ → Outcome

@@ -114,7 +114,7 @@ pub fn reciprocal(k: Precision, image: &[u8], n: u32, x: u64) -> ReciprocalGiven
             value: Ulps(0),
         };
     }
-    let number = operand::refusal_number(k, n, x);
+    let number = operand::refusal_number(n, x);
     if number != 0 {
         return ReciprocalGiven {
             number,
@@ -122,5 +122,5 @@ pub fn reciprocal(k: Precision, image: &[u8], n: u32, x: u64) -> ReciprocalGiven
             value: Ulps(0),
         };
     }
-    of_cut(k, image, operand::cut(k, n, x))
+    of_cut(k, image, operand::cut(2 * k.0 + 3, n, x))
 }

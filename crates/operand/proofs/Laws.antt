@@ -1,24 +1,24 @@
--- The laws of an operand: when it is normalised, what its cut is, and what bits written to its right change.
+-- The laws of an operand: when it is normalised, what it is with s fraction bits, and what bits written to its right change.
 -- Assumes nothing.
 use mathlib.Core.Path.{_≡_, sym, ap, _∙_}
 use mathlib.Core.Bool.{true, and-eq-true-iff}
-use Prim.Native.Nat.{ℕ, _+_, _-_, _*_, _/_, _%_, _^_, _≤_, _<_}
-use native.Mathlib.Nat.{mod-lt, div-eq-of-lt-le}
+use Prim.Native.Nat.{ℕ, zero, suc, _+_, _-_, _*_, _/_, _%_, _^_, _≤_, _<_}
+use native.Mathlib.Nat.{mod-lt, mod-eq-of-lt, mul-one, div-one, div-eq-of-lt-le}
 use native.Mathlib.Omega.{arith}
 use lib.Dec.{eqb, leb, ltb}
-use lib.Pow.{pow-add, pow-pos, split, shr-shr, high}
+use lib.Pow.{pow-add, pow-pos, pow-mono, split, shl-shr, shr-shr, high}
 use borrow.Author.Tests.{leb-true, ltb-true, eqb-true, le-leb, lt-ltb, eq-eqb}
 use Rattle.bools.proofs.Bools.{same}
-use Rattle.operand.specs.Operand.{cutBits, mostBits, isFractionCount, isNormalised, cutOperand}
+use Rattle.operand.specs.Operand.{leastBits, mostBits, isFractionCount, isNormalised, cutTo, cutOperand}
 
--- n passes its test exactly from 2k + 3 to 63
-pub count-in : (k n : ℕ) → isFractionCount k n ≡ true → (2 * k + 3 ≤ n) × (n ≤ 63)
-count-in k n e =
-    let b = and-eq-true-iff (leb (cutBits k) n) (leb n mostBits) .0 e in
-    (leb-true (2 * k + 3) n (b .0), leb-true n 63 (b .1))
+-- n passes its test exactly from 1 to 63
+pub count-in : (n : ℕ) → isFractionCount n ≡ true → (1 ≤ n) × (n ≤ 63)
+count-in n e =
+    let b = and-eq-true-iff (leb leastBits n) (leb n mostBits) .0 e in
+    (leb-true 1 n (b .0), leb-true n 63 (b .1))
 
-pub in-count : (k n : ℕ) → 2 * k + 3 ≤ n → n ≤ 63 → isFractionCount k n ≡ true
-in-count k n l h = simp (le-leb (2 * k + 3) n l, le-leb n 63 h)
+pub in-count : (n : ℕ) → 1 ≤ n → n ≤ 63 → isFractionCount n ≡ true
+in-count n l h = simp (le-leb 1 n l, le-leb n 63 h)
 
 -- and X exactly from 2^n up to 2^(n+1)
 pub normalised-in : (n X : ℕ) → isNormalised n X ≡ true → (2 ^ n ≤ X) × (X < 2 ^ (n + 1))
@@ -47,53 +47,88 @@ normalised-high n X =
     (λ t. let b = normalised-in n X t in eq-eqb (X / 2 ^ n) 1 (high-one n X (b .0) (b .1)))
     (λ t. let b = one-high n X (eqb-true (X / 2 ^ n) 1 t) in in-normalised n X (b .0) (b .1))
 
--- X cut to c of its n fraction bits
-module _ (c n : ℕ) (enough : c ≤ n) where
-  -- it is X / 2^(n-c) without its rest
-  pub cut-split : (X : ℕ) → X / 2 ^ (n - c) * 2 ^ (n - c) + X % 2 ^ (n - c) ≡ X
-  cut-split X = split X (n - c)
+-- X with s of its n fraction bits, for any s
+module _ (s n : ℕ) where
+  -- where it has as many or more, the others are cut off
+  pub cut-long : s ≤ n → (X : ℕ) → cutTo s n X ≡ X / 2 ^ (n - s)
+  cut-long enough X =
+      ap (λ (e : ℕ). X * 2 ^ e / 2 ^ (n - s)) {x = s - n} {y = 0} (omega arith) ∙ ap (λ (y : ℕ). y / 2 ^ (n - s)) (mul-one X)
 
-  pub cut-rest : (X : ℕ) → X % 2 ^ (n - c) < 2 ^ (n - c)
-  cut-rest X = mod-lt X (pow-pos (n - c))
+  -- where it has as many or fewer, zeros are written to its right
+  pub cut-short : n ≤ s → (X : ℕ) → cutTo s n X ≡ X * 2 ^ (s - n)
+  cut-short few X =
+      ap (λ (e : ℕ). X * 2 ^ (s - n) / 2 ^ e) {x = n - s} {y = 0} (omega arith) ∙ div-one (X * 2 ^ (s - n))
 
-  -- it is normalised with c fraction bits where X is with n
-  pub cut-high : (X : ℕ) → X / 2 ^ (n - c) / 2 ^ c ≡ X / 2 ^ n
-  cut-high X = shr-shr X (n - c) c ∙ ap (λ (e : ℕ). X / 2 ^ e) {x = n - c + c} {y = n} (omega arith)
+  -- in either case it is X × 2^(s-n) without a rest
+  pub cut-split : (X : ℕ) → cutTo s n X * 2 ^ (n - s) + X * 2 ^ (s - n) % 2 ^ (n - s) ≡ X * 2 ^ (s - n)
+  cut-split X = split (X * 2 ^ (s - n)) (n - s)
 
-  pub cut-range : (X : ℕ) → 2 ^ n ≤ X → X < 2 ^ (n + 1) → (2 ^ c ≤ X / 2 ^ (n - c)) × (X / 2 ^ (n - c) < 2 ^ (c + 1))
-  cut-range X l h = one-high c (X / 2 ^ (n - c)) (cut-high X ∙ high-one n X l h)
+  pub cut-rest : (X : ℕ) → X * 2 ^ (s - n) % 2 ^ (n - s) < 2 ^ (n - s)
+  cut-rest X = mod-lt (X * 2 ^ (s - n)) (pow-pos (n - s))
 
--- the cut of a normalised operand at precision k is an operand of 2k + 3 fraction bits, and normalised
-pub cut-normalised : (k n X : ℕ) → 2 * k + 3 ≤ n → 2 ^ n ≤ X → X < 2 ^ (n + 1) → (2 ^ (2 * k + 3) ≤ cutOperand k n X) × (cutOperand k n X < 2 ^ (2 * k + 4))
-cut-normalised k n X enough l h =
+  -- it is normalised with s fraction bits where X is with n
+  pub cut-high : (X : ℕ) → cutTo s n X / 2 ^ s ≡ X / 2 ^ n
+  cut-high X =
+      shr-shr (X * 2 ^ (s - n)) (n - s) s
+      ∙ ap (λ (e : ℕ). X * 2 ^ (s - n) / 2 ^ e) {x = n - s + s} {y = s - n + n} (omega arith)
+      ∙ sym (shr-shr (X * 2 ^ (s - n)) (s - n) n)
+      ∙ ap (λ (y : ℕ). y / 2 ^ n) (shl-shr X (s - n))
+
+  pub cut-range : (X : ℕ) → 2 ^ n ≤ X → X < 2 ^ (n + 1) → (2 ^ s ≤ cutTo s n X) × (cutTo s n X < 2 ^ (s + 1))
+  cut-range X l h = one-high s (cutTo s n X) (cut-high X ∙ high-one n X l h)
+
+  -- so it has its place in 64 bits where s is at most 63
+  pub cut-fits : (X : ℕ) → 2 ^ n ≤ X → X < 2 ^ (n + 1) → s ≤ 63 → cutTo s n X % 2 ^ 64 ≡ cutTo s n X
+  cut-fits X l h small =
+      let more : s + 1 ≤ 64 = omega (arith, small) in
+      mod-eq-of-lt (omega (arith, cut-range X l h .1, pow-mono more))
+
+  -- the greatest operand is cut to the greatest
+  pub cut-greatest : s ≤ n → (X : ℕ) → X + 1 ≡ 2 ^ (n + 1) → cutTo s n X + 1 ≡ 2 ^ (s + 1)
+  cut-greatest enough X last =
+      let rest : n + 1 ≡ (s + 1) + (n - s) = omega (arith, enough) in
+      let whole = last ∙ ap (λ (e : ℕ). 2 ^ e) rest ∙ pow-add 2 (s + 1) (n - s) in
+      let S = 2 ^ (n - s) in
+      let q = 2 ^ (s + 1) - 1 in
+      let more : q + 1 ≡ 2 ^ (s + 1) = omega (arith, pow-pos (s + 1)) in
+      let end : X ≡ q * S + (S - 1) = omega (arith, whole, ap (λ (x : ℕ). x * S) more, pow-pos (n - s)) in
+      omega (arith, cut-long enough X ∙ ap (λ (x : ℕ). x / S) end ∙ high q (n - s) (omega (arith, pow-pos (n - s))), more)
+
+-- the instance of a precision: t has 2k + 3 fraction bits, and is normalised where the operand is
+pub cut-normalised : (k n X : ℕ) → 2 ^ n ≤ X → X < 2 ^ (n + 1) → (2 ^ (2 * k + 3) ≤ cutOperand k n X) × (cutOperand k n X < 2 ^ (2 * k + 4))
+cut-normalised k n X l h =
     let one-more : 2 * k + 3 + 1 ≡ 2 * k + 4 = omega arith in
-    rw one-more at (cut-range (2 * k + 3) n enough X l h)
+    rw one-more at (cut-range (2 * k + 3) n X l h)
 
--- the greatest operand is cut to the greatest
-pub cut-greatest : (k n X : ℕ) → 2 * k + 3 ≤ n → X + 1 ≡ 2 ^ (n + 1) → cutOperand k n X + 1 ≡ 2 ^ (2 * k + 4)
-cut-greatest k n X enough last =
-    let rest : n + 1 ≡ (2 * k + 4) + (n - (2 * k + 3)) = omega arith in
-    let whole = last ∙ ap (λ (e : ℕ). 2 ^ e) rest ∙ pow-add 2 (2 * k + 4) (n - (2 * k + 3)) in
-    let S = 2 ^ (n - (2 * k + 3)) in
-    let q = 2 ^ (2 * k + 4) - 1 in
-    let more : q + 1 ≡ 2 ^ (2 * k + 4) = omega (arith, pow-pos (2 * k + 4)) in
-    let end : X ≡ q * S + (S - 1) = omega (arith, whole, ap (λ (x : ℕ). x * S) more, pow-pos (n - (2 * k + 3))) in
-    omega (arith, ap (λ (x : ℕ). x / S) end ∙ high q (n - (2 * k + 3)) (omega (arith, pow-pos (n - (2 * k + 3)))), more)
+-- padded bits are none, or no bit is behind the padding
+none-lost : (b e d : ℕ) → b < 2 ^ e → (0 < d → e ≡ 0) → b * 2 ^ d < 2 ^ e
+none-lost b e zero h f = omega (arith, h)
+none-lost b e (suc d) h f =
+    let none : b ≡ 0 = omega (arith, h, ap (λ (x : ℕ). 2 ^ x) (f (omega arith))) in
+    omega (arith, ap (λ (x : ℕ). x * 2 ^ suc d) none, pow-pos e)
 
 -- m bits b written to the right of X
-module _ (m X b : ℕ) (h : b < 2 ^ m) where
-  -- higher bits are those of X
-  longer : (e : ℕ) → (X * 2 ^ m + b) / 2 ^ (m + e) ≡ X / 2 ^ e
-  longer e = sym (shr-shr (X * 2 ^ m + b) m e) ∙ ap (λ (y : ℕ). y / 2 ^ e) (high X m h)
-
-  -- the cut to c bits does not change
-  pub cut-longer : (c n : ℕ) → c ≤ n → (X * 2 ^ m + b) / 2 ^ (n + m - c) ≡ X / 2 ^ (n - c)
-  cut-longer c n l =
-      ap (λ (e : ℕ). (X * 2 ^ m + b) / 2 ^ e) {x = n + m - c} {y = m + (n - c)} (omega arith) ∙ longer (n - c)
+module _ (m X b : ℕ) where
+  -- X with s fraction bits does not change where those of the m bits that come to stand among the first s, which are s - n, are zero
+  pub cut-longer : (s n : ℕ) → b < 2 ^ (m - (s - n)) → cutTo s (n + m) (X * 2 ^ m + b) ≡ cutTo s n X
+  cut-longer s n h =
+      let d = s - n in
+      let e = m - d in
+      let u = s - (n + m) in
+      let places : m + u ≡ d + e = omega arith in
+      let padded : (X * 2 ^ m + b) * 2 ^ u ≡ X * 2 ^ d * 2 ^ e + b * 2 ^ u =
+      omega (arith, ap (λ (x : ℕ). X * x) (sym (pow-add 2 m u) ∙ ap (λ (x : ℕ). 2 ^ x) places ∙ pow-add 2 d e)) in
+      ap (λ (x : ℕ). x / 2 ^ (n + m - s)) padded
+      ∙ ap (λ (x : ℕ). (X * 2 ^ d * 2 ^ e + b * 2 ^ u) / 2 ^ x) {x = n + m - s} {y = e + (n - s)} (omega arith)
+      ∙ sym (shr-shr (X * 2 ^ d * 2 ^ e + b * 2 ^ u) e (n - s))
+      ∙ ap (λ (x : ℕ). x / 2 ^ (n - s)) (high (X * 2 ^ d) e (none-lost b e u h (λ p. omega (arith, p))))
 
   -- nor whether the operand is normalised
-  pub normalised-longer : (n : ℕ) → isNormalised (n + m) (X * 2 ^ m + b) ≡ isNormalised n X
-  normalised-longer n =
+  pub normalised-longer : (n : ℕ) → b < 2 ^ m → isNormalised (n + m) (X * 2 ^ m + b) ≡ isNormalised n X
+  normalised-longer n h =
       normalised-high (n + m) (X * 2 ^ m + b)
-      ∙ ap (λ (y : ℕ). eqb y 1) (ap (λ (e : ℕ). (X * 2 ^ m + b) / 2 ^ e) {x = n + m} {y = m + n} (omega arith) ∙ longer n)
+      ∙ ap (λ (y : ℕ). eqb y 1)
+      (ap (λ (e : ℕ). (X * 2 ^ m + b) / 2 ^ e) {x = n + m} {y = m + n} (omega arith)
+      ∙ sym (shr-shr (X * 2 ^ m + b) m n)
+      ∙ ap (λ (y : ℕ). y / 2 ^ n) (high X m h))
       ∙ sym (normalised-high n X)

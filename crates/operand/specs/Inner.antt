@@ -6,5 +6,5 @@ use Rattle.answers.specs.Inner.{firstNumber}
 use Rattle.operand.specs.Refusals.{fractionRefusal, operandRefusal}
 
 -- the number of the first of refusals 4 and 5 that applies, 0 where neither does
-abbrev pub operandNumber : ℕ → ℕ → ℕ → ℕ
-operandNumber k n X = firstNumber (fractionRefusal k n ∷ operandRefusal n X ∷ [])
+abbrev pub operandNumber : ℕ → ℕ → ℕ
+operandNumber n X = firstNumber (fractionRefusal n ∷ operandRefusal n X ∷ [])

@@ -2,7 +2,7 @@
 -- Assumes nothing.
 use mathlib.Core.Path.{_≡_, sym, ap, _∙_}
 use mathlib.Core.List.{List, _∷_}
-use Prim.Native.Nat.{ℕ}
+use Prim.Native.Nat.{ℕ, _+_, _*_, _%_, _^_, _≤_}
 use native.Mathlib.Omega.{arith}
 use lib.ListN.{length}
 use borrow.Author.Needs.{needs}
@@ -14,7 +14,7 @@ use Rattle.image.proofs.Limits.{limit-refuses, limit-passes, limit-kept}
 use Rattle.operand.specs.Operand.{cutOperand}
 use Rattle.operand.specs.Refusals.{fractionRefusal, operandRefusal}
 use Rattle.operand.specs.Inner.{operandNumber}
-use Rattle.operand.proofs.Laws.{cut-normalised}
+use Rattle.operand.proofs.Laws.{cut-normalised, cut-fits}
 use Rattle.operand.proofs.Limits.{operand-refuses, operand-passes, operand-kept}
 use Rattle.interpolation.specs.Reciprocal.{readReciprocal}
 use Rattle.interpolation.specs.Calls.{cutRefusals, reciprocalOutcome}
@@ -32,29 +32,34 @@ module _ (k : ℕ) (s : List ℕ) (n X : ℕ) where
   words = cutRefusals k s (cutOperand k n X)
 
   abbrev later : List Refusal
-  later = fractionRefusal k n ∷ operandRefusal n X ∷ words
+  later = fractionRefusal n ∷ operandRefusal n X ∷ words
 
   limit-given : (number : ℕ) → number ≡ refusalNumber k (length s) → (number ≡ 0 → ⊥) → limited number ≡ reciprocalOutcome k s n X
   limit-given number e broken = ap limited e ∙ sym (limit-refuses k s later R (λ none. broken (e ∙ none)))
 
   -- behind the first test k and the image keep their limits
   module _ (kept : refusalNumber k (length s) ≡ 0) where
-    operand-given : (number : ℕ) → number ≡ operandNumber k n X → (number ≡ 0 → ⊥) → limited number ≡ reciprocalOutcome k s n X
+    operand-given : (number : ℕ) → number ≡ operandNumber n X → (number ≡ 0 → ⊥) → limited number ≡ reciprocalOutcome k s n X
     operand-given number e broken =
-        ap limited e ∙ sym (limit-passes k s later R kept ∙ operand-refuses k n X words R (λ none. broken (e ∙ none)))
+        ap limited e ∙ sym (limit-passes k s later R kept ∙ operand-refuses n X words R (λ none. broken (e ∙ none)))
 
     -- behind the second n and X keep theirs, and t is an operand of 2k + 3 fraction bits
-    module _ (kept-too : operandNumber k n X ≡ 0) (t : ℕ) (cut : t ≡ cutOperand k n X) where
+    module _ (kept-too : operandNumber n X ≡ 0) (t : ℕ) (cut : t ≡ cutOperand k n X % 2 ^ 64) where
+      whole : t ≡ cutOperand k n X
+      whole =
+          let b = operand-kept n X kept-too in
+          cut ∙ cut-fits (2 * k + 3) n X (b .least) (b .below) (omega (arith, limit-kept k s kept .high))
+
       cut-given : cutOutcome k s t ≡ reciprocalOutcome k s n X
       cut-given =
-          ap (cutOutcome k s) cut ∙ sym (limit-passes k s later R kept ∙ operand-passes k n X words R kept-too)
+          ap (cutOutcome k s) whole ∙ sym (limit-passes k s later R kept ∙ operand-passes n X words R kept-too)
 
       cut-is : IsCut k s t
       cut-is =
           let a = limit-kept k s kept in
-          let b = operand-kept k n X kept-too in
-          let r = cut-normalised k n X (b .enough) (b .least) (b .below) in
-          rw cut (record { low = a .low; high = a .high; long = a .long; least = r .0; most = r .1 })
+          let b = operand-kept n X kept-too in
+          let r = cut-normalised k n X (b .least) (b .below) in
+          rw whole (record { low = a .low; high = a .high; long = a .long; least = r .0; most = r .1 })
 
 returns : tie.Need-returns
 returns c =
@@ -75,7 +80,7 @@ returns-2 c =
 -- behind both
 returns-3 : tie.Need-returns-3
 returns-3 c =
-    let behind-both = c .before .before in
+    let behind-both = c .before .before .before in
     let behind = behind-both .before .before in
     let a = behind .before .before .before .args in
     c .of-cut .ensures
@@ -89,12 +94,25 @@ refusal-number-requires c κs = search needs
 refusal-number-requires-2 : tie.Need-refusal-number-requires-2
 refusal-number-requires-2 c κs = search needs
 
+-- k is at most 12 there
+small : (c : tie.After-struct-known) → c .before .before .before .before .before .before .args .k .0 ≤ 12
+small c =
+    let behind = c .before .before .before in
+    let a = behind .before .before .before .args in
+    limit-kept (a .k .0) (a .image .now) (omega (arith, behind .before .refusal-number .ensures, behind .if1 .left)) .high
+
+mul-cut : tie.Need-mul-cut
+mul-cut c = omega (arith, small c)
+
+add-cut : tie.Need-add-cut
+add-cut c = omega (arith, small c)
+
 cut-requires : tie.Need-cut-requires
 cut-requires c κs = search needs
 
 of-cut-requires : tie.Need-of-cut-requires
 of-cut-requires c κs =
-    let behind-both = c .before in
+    let behind-both = c .before .before in
     let behind = behind-both .before .before in
     let a = behind .before .before .before .args in
     cut-is (a .k .0) (a .image .now) (a .n) (a .x) (omega (arith, behind .before .refusal-number .ensures, behind .if1 .left))
@@ -108,6 +126,8 @@ reciprocal-spec =
     returns
     refusal-number-requires-2
     returns-2
+    mul-cut
+    add-cut
     cut-requires
     of-cut-requires
     returns-3)

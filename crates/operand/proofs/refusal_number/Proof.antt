@@ -15,7 +15,7 @@ is-fraction-count-requires c κs = search needs
 returns : tie.Need-returns
 returns c =
     let n = c .before .is-fraction-count in
-    (rw (sym (n .ensures) ∙ not-true (n .result) (c .if1 .taken)) refl, refl)
+    (rw (sym (n .ensures) ∙ not-true (n .result) (c .if1 .taken)) refl, (refl, refl))
 
 high-requires : tie.Need-high-requires
 high-requires c κs = search needs
@@ -29,7 +29,7 @@ returns-2 c =
         sym (n .ensures) ∙ not-false (n .result) (at .if1 .left),
         normalised-high (a .n) (a .x) ∙ ne-eqb (a .x / 2 ^ a .n) 1 (λ e. omega (arith, c .if2 .taken, c .before .high .ensures, e)),
       ),
-      refl,
+      (refl, refl),
     )
 
 returns-3 : tie.Need-returns-3
@@ -41,7 +41,7 @@ returns-3 c =
         sym (n .ensures) ∙ not-false (n .result) (at .if1 .left),
         normalised-high (a .n) (a .x) ∙ eq-eqb (a .x / 2 ^ a .n) 1 (omega (arith, c .before .high .ensures, c .if2 .left)),
       ),
-      refl,
+      (refl, refl),
     )
 
 pub refusal-number-spec : {M : Type 1} → statement M
