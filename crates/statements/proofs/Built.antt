@@ -71,9 +71,9 @@ module _ (k : ℕ) (s : List ℕ) (p : IsPrecision k) (l : IsLongEnough k s) whe
       ∙ node-served k (buildLeaves k s) j (nodeOf k (buildLeaves k s) j) h (read-right k (buildLeaves k s) j (built-words j))
       ∙ ap served (served-decodes k (buildLeaves k s) j h (built-words j))
 
-  pub built-gives : (n X : ℕ) → IsFractionCount k n → IsNormalised n X → reciprocalOutcome k (buildLeaves k s) n X ≡ served (reciprocal k n X)
+  pub built-gives : (n X : ℕ) → IsFractionCount n → IsNormalised n X → reciprocalOutcome k (buildLeaves k s) n X ≡ served (reciprocal k n X)
   built-gives n X c o =
-      gives k n X (buildLeaves k s) p still-long c o (built-words (nodeNumber k (cutOperand k n X)) (has-word k n X (c .0) o)) (built-words (nodeNumber k (cutOperand k n X) + 1))
+      gives k n X (buildLeaves k s) p still-long c o (built-words (nodeNumber k (cutOperand k n X)) (has-word k n X o)) (built-words (nodeNumber k (cutOperand k n X) + 1))
 
   pub built-checks : checkOutcome k (buildLeaves k s) ≡ served 0
   built-checks =

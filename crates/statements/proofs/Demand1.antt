@@ -178,21 +178,21 @@ module _ (k : ℕ) (s : List ℕ) (n X : ℕ) where
   pub reciprocal-refuses-2 : (reciprocalOutcome k s n X .number ≡ 2) ↔ (IsPrecision k × (length s < imageLength k))
   reciprocal-refuses-2 = Reciprocals.reciprocal-2 k n X s
 
-  -- 4: n is below 2k + 3 or above 63
-  pub reciprocal-refuses-4 : (reciprocalOutcome k s n X .number ≡ 4) ↔ (IsPrecision k × IsLongEnough k s × (IsFractionCount k n → ⊥))
+  -- 4: n is below 1 or above 63
+  pub reciprocal-refuses-4 : (reciprocalOutcome k s n X .number ≡ 4) ↔ (IsPrecision k × IsLongEnough k s × (IsFractionCount n → ⊥))
   reciprocal-refuses-4 = Reciprocals.reciprocal-4 k n X s
 
   -- 5: X is not from 2^n to 2^(n+1) - 1
-  pub reciprocal-refuses-5 : (reciprocalOutcome k s n X .number ≡ 5) ↔ (IsPrecision k × IsLongEnough k s × IsFractionCount k n × (IsNormalised n X → ⊥))
+  pub reciprocal-refuses-5 : (reciprocalOutcome k s n X .number ≡ 5) ↔ (IsPrecision k × IsLongEnough k s × IsFractionCount n × (IsNormalised n X → ⊥))
   reciprocal-refuses-5 = Reciprocals.reciprocal-5 k n X s
 
   -- 6: one of the words that are read is not the construction's; where j + 1 is 2^k only the word of j is read
   pub reciprocal-refuses-6 : (reciprocalOutcome k s n X .number ≡ 6)
-      ↔ (IsPrecision k × IsLongEnough k s × IsFractionCount k n × IsNormalised n X × ((IsRightAt k s j → ⊥) ⊎ ((j + 1 < 2 ^ k) × (IsRightAt k s (j + 1) → ⊥))))
+      ↔ (IsPrecision k × IsLongEnough k s × IsFractionCount n × IsNormalised n X × ((IsRightAt k s j → ⊥) ⊎ ((j + 1 < 2 ^ k) × (IsRightAt k s (j + 1) → ⊥))))
   reciprocal-refuses-6 = Reciprocals.reciprocal-6 k n X s
 
   pub reciprocal-serves : (reciprocalOutcome k s n X .number ≡ 0)
-      ↔ (IsPrecision k × IsLongEnough k s × IsFractionCount k n × IsNormalised n X × IsRightAt k s j × (j + 1 < 2 ^ k → IsRightAt k s (j + 1)))
+      ↔ (IsPrecision k × IsLongEnough k s × IsFractionCount n × IsNormalised n X × IsRightAt k s j × (j + 1 < 2 ^ k → IsRightAt k s (j + 1)))
   reciprocal-serves = Reciprocals.reciprocal-0 k n X s
 
   pub reciprocal-numbers : T (isOneOf (reciprocalOutcome k s n X .number) (0 ∷ 1 ∷ 2 ∷ 4 ∷ 5 ∷ 6 ∷ []))

@@ -8,9 +8,9 @@
 -- 3. The image is that of these nodes: its length length-eighth, image-bytes, image-whole, length-listed, no-length; its words built-word; its bits
 --    image-bit. The builder leaves it at the front of the buffer: built-front. What a word of any bytes is: word-below, word-bit; what a zero
 --    word is: zero-word-first, zero-word-wrong.
--- 4. The reciprocal is that of Algorithm 2: step-t, step-i, step-j, step-f, step-P, step-R, with line-P and differences. The call gives it from
---    every image that was built (built-gives), and gives no other from any image (given-is-R, in Demand3).
--- 5. With three input guard bits: t keeps 2k + 3 fraction bits of the operand, three more than 2k (step-t); k of them go to i and k + 3 to f
+-- 4. The reciprocal is that of Algorithm 2: step-t, with step-t-cut and step-t-padded, step-i, step-j, step-f, step-P, step-R, with line-P and
+--    differences. The call gives it from every image that was built (built-gives), and gives no other from any image (given-is-R, in Demand3).
+-- 5. With three input guard bits: t has 2k + 3 fraction bits of the operand, three more than 2k (step-t); k of them go to i and k + 3 to f
 --    (step-i, step-f).
 -- 6. Nodes that are read back from a built image are those that were put in: node-read-back.
 -- 7. An image passes the check exactly when all its words are right: check-passes-words; by its bytes: check-passes-bytes. One that was built
@@ -22,9 +22,9 @@
 -- reciprocal-by-words, reciprocal-by-lower-word, word-by-its-bytes; none past the image: check-by-image, node-by-image, reciprocal-by-image,
 -- part-by-image, part-place-by-image. The reciprocal reads both words, whatever f is: lower-word-named, upper-word-named, upper-word-named-at-0.
 --
--- Each theorem assumes no more than ranges of its numbers: that k is a precision or from 1 on, that n is from 2k + 3 to 63, that X is
--- normalised, that a buffer is long enough, that its elements are bytes; and, where two buffers are compared or a wrong word is named, which
--- of their words or bytes agree or are wrong.
+-- Each theorem assumes no more than ranges of its numbers: that k is a precision or from 1 on, that n is from 1 to 63, or at most or at least
+-- 2k + 3, that X is normalised, that a buffer is long enough, that its elements are bytes; and, where two buffers are compared or a wrong word is
+-- named, which of their words or bytes agree or are wrong.
 use mathlib.Core.Path.{_≡_, refl, _∙_}
 use mathlib.Core.Logic.{_↔_}
 use mathlib.Core.List.{List}
@@ -47,6 +47,7 @@ use Rattle.image.specs.Calls.{buildLeaves, checkOutcome, nodeOutcome, shownPart
 use Rattle.layout.proofs.Laws as layouts
 use Rattle.image.proofs.Laws.{plain-fits, eighths, whole-bytes, eighth-of-bits}
 use Rattle.operand.specs.Operand.{cutOperand}
+use Rattle.operand.proofs.Laws.{cut-long, cut-short}
 use Rattle.interpolation.specs.Algorithm.{index, nodeNumber, fraction, cutProductSum}
 use Rattle.interpolation.specs.Reciprocal.{reciprocal}
 use Rattle.interpolation.specs.Calls.{reciprocalOutcome}
@@ -126,9 +127,15 @@ module _ (k n X : ℕ) where
   abbrev R : ℕ
   R = reciprocal k n X
 
-  -- 1. t = floor(X / 2^(n-2k-3))
-  pub step-t : t ≡ X / 2 ^ (n - (2 * k + 3))
+  -- 1. t has 2k + 3 fraction bits: floor(X / 2^(n-2k-3)) where X has as many or more, X × 2^(2k+3-n) where it has as many or fewer
+  pub step-t : t ≡ X * 2 ^ (2 * k + 3 - n) / 2 ^ (n - (2 * k + 3))
   step-t = refl
+
+  pub step-t-cut : 2 * k + 3 ≤ n → t ≡ X / 2 ^ (n - (2 * k + 3))
+  step-t-cut enough = cut-long (2 * k + 3) n enough X
+
+  pub step-t-padded : n ≤ 2 * k + 3 → t ≡ X * 2 ^ (2 * k + 3 - n)
+  step-t-padded few = cut-short (2 * k + 3) n few X
 
   -- 2. i = floor(t / 2^(k+3)), j = i - 2^k, f = t modulo 2^(k+3)
   pub step-i : i ≡ t / 2 ^ (k + 3)
@@ -152,8 +159,8 @@ module _ (k n X : ℕ) where
   pub line-P : P ≡ c j * (2 ^ (k + 3) - f) + c (j + 1) * f
   line-P = Sizes.on-the-line k t
 
-  -- no difference falls below 0 where 2k + 3 ≤ n and X is normalised
-  pub differences : 2 * k + 3 ≤ n → IsNormalised n X → (2 ^ k + j ≡ i) × (j < 2 ^ k) × (c (j + 1) ≤ c j) × ((c j - c (j + 1)) * f ≤ c j * 2 ^ (k + 3))
+  -- no difference of steps 2 and 3 falls below 0 where X is normalised
+  pub differences : IsNormalised n X → (2 ^ k + j ≡ i) × (j < 2 ^ k) × (c (j + 1) ≤ c j) × ((c j - c (j + 1)) * f ≤ c j * 2 ^ (k + 3))
   differences = Reciprocals.differences k n X
 
 -- The image has 2^k × (2k + 2) / 8 bytes, and these are whole, for every k from 1.
@@ -190,7 +197,7 @@ module _ (k : ℕ) (p : IsPrecision k) where
   built-passes s l = Built.built-checks k s p l
 
   -- every operand in range is given its R from a buffer that was built, whatever the buffer held before
-  pub built-gives : (s : List ℕ) → IsLongEnough k s → (n X : ℕ) → IsFractionCount k n → IsNormalised n X → reciprocalOutcome k (buildLeaves k s) n X ≡ served (reciprocal k n X)
+  pub built-gives : (s : List ℕ) → IsLongEnough k s → (n X : ℕ) → IsFractionCount n → IsNormalised n X → reciprocalOutcome k (buildLeaves k s) n X ≡ served (reciprocal k n X)
   built-gives s l = Built.built-gives k s p l
 
   -- an image passes the check exactly when each word is the construction's
@@ -219,7 +226,7 @@ module _ (k : ℕ) (s s' : List ℕ) (l : IsLongEnough k s) (m : IsLongEnough k 
   reciprocal-by-lower-word n X last e = reciprocal-by-words n X e (λ h. absurd (omega (arith, h, last)))
 
 -- The reciprocal reads both words, whatever f is: a wrong one is named, the lower first.
-module _ (k : ℕ) (s : List ℕ) (n X : ℕ) (p : IsPrecision k) (l : IsLongEnough k s) (q : IsFractionCount k n) (o : IsNormalised n X) where
+module _ (k : ℕ) (s : List ℕ) (n X : ℕ) (p : IsPrecision k) (l : IsLongEnough k s) (q : IsFractionCount n) (o : IsNormalised n X) where
   pub lower-word-named : (IsRightAt k s (j k n X) → ⊥) → reciprocalOutcome k s n X ≡ record { number = 6; place = j k n X; value = 0 }
   lower-word-named = Reciprocals.lower-named k n X s p l q o
 

@@ -1,24 +1,28 @@
 -- Demand 3: the bound. Its clauses in our own words, each with what settles it; theorems stand on this page where no other is named.
 --
--- 1. At every precision, for every n from 2k + 3 to 63 and every normalised X, R × X and 2^(n+2k+1) are less than X apart: bound-low,
---    bound-high, for every k and every n from 2k + 3 on, since 12 and 63 are limits of the call alone. That is less than one ulp: ulps-low,
---    ulps-high, with exact-in-ulps and reciprocal-of-one for what an ulp is.
+-- 1. At every precision, for every n from 1 to 63 and every normalised X, R × X and 2^(n+2k+1) are less than X apart: bound-low, bound-high,
+--    for every k and every n, since 12, 1 and 63 are limits of the call alone. That is less than one ulp: ulps-low, ulps-high, with
+--    exact-in-ulps and reciprocal-of-one for what an ulp is.
 -- 2. A reciprocal that is given, which is one with the number 0, is this R: given-is-R. So the bound holds of it: given-low, given-high. When
 --    one is given: reciprocal-serves, in Demand1; from every built image: built-gives, in Demand2.
 -- 3. Whatever bytes the image holds: s is any list of numbers in given-is-R, given-low and given-high, and nothing is assumed of it.
 -- 4. Wherever the image came from: these three ask for the number 0 and for nothing else, so neither that the image was built here nor that it
 --    passed the check. A bound table takes any image too and answers as the plain call does: bound-reciprocal, in Demand1.
--- 5. Bits that are written to the right of X do not change R: longer-reciprocal. Up to 63 in all they do not change the answer from the same
---    image, in one equation for number, place and value: longer-answer. Both are of every X, normalised or not.
+-- 5. Bits that are written to the right of X do not change R where X has 2k + 3 fraction bits or more: longer-reciprocal. Up to 63 in all they
+--    do not change the answer from the same image, in one equation for number, place and value: longer-answer. Where X has fewer, the same
+--    holds of bits of which those among the first 2k + 3 fraction bits are zero: padded-reciprocal, padded-answer; zeros alone change nothing
+--    at any n: zeros-reciprocal, zeros-answer; and a written bit that is not zero can change R: written-bit-counts. All but the last are of
+--    every X, normalised or not.
 --
--- Beside the demand: R runs from 2^(2k) to 2^(2k+1) and reaches both ends: reciprocal-from, reciprocal-to, reciprocal-of-least,
--- reciprocal-of-greatest. The sizes of document 002's Lemma 1, and what fits 64 bits: node-difference, fraction-below, product-below,
--- first-product-fits, second-product-fits, product-sum-fits.
+-- Beside the demand: R runs from 2^(2k) to 2^(2k+1) at every n: reciprocal-from, reciprocal-to. The least operand reaches the upper end at every
+-- n, the greatest the lower from n = 2k + 3 on: reciprocal-of-least, reciprocal-of-greatest. The sizes of document 002's Lemma 1, and what fits
+-- 64 bits: node-difference, fraction-below, product-below, first-product-fits, second-product-fits, product-sum-fits.
 --
 -- `reciprocal k n X` is R (Demand2 has its steps), and `reciprocalOutcome k s n X` is the answer of the call.
 use mathlib.Core.Path.{_≡_, refl}
 use mathlib.Core.List.{List}
 use Prim.Native.Nat.{ℕ, _+_, _-_, _*_, _^_, _≤_, _<_}
+use native.Mathlib.Omega.{arith}
 use Rattle.units.specs.Units.{ulpsInOne}
 use Rattle.nodes.specs.Nodes.{node}
 use Rattle.interpolation.specs.Algorithm.{nodeNumber, fraction, cutProductSum}
@@ -32,13 +36,13 @@ use Rattle.statements.proofs.Reciprocals
 use Rattle.statements.proofs.Sizes
 use Rattle.statements.proofs.Units
 
--- The bound: R × X differs from 2^(n+2k+1) by less than X.
-module _ (k n X : ℕ) (enough : 2 * k + 3 ≤ n) (least : 2 ^ n ≤ X) (below : X < 2 ^ (n + 1)) where
+-- The bound: R × X differs from 2^(n+2k+1) by less than X, whether X is cut or padded.
+module _ (k n X : ℕ) (least : 2 ^ n ≤ X) (below : X < 2 ^ (n + 1)) where
   pub bound-low : 2 ^ (n + 2 * k + 1) < reciprocal k n X * X + X
-  bound-low = reciprocal-low k n X enough least below
+  bound-low = reciprocal-low k n X least below
 
   pub bound-high : reciprocal k n X * X < 2 ^ (n + 2 * k + 1) + X
-  bound-high = reciprocal-high k n X enough least below
+  bound-high = reciprocal-high k n X least below
 
   -- in ulps: R of them differ from the exact reciprocal of X / 2^n, which is 2^n / X, by less than one; both sides are multiplied by X
   pub ulps-low : ulpsInOne k * 2 ^ n < reciprocal k n X * X + X
@@ -52,8 +56,8 @@ module _ (k n : ℕ) where
   pub exact-in-ulps : 2 ^ (n + 2 * k + 1) ≡ ulpsInOne k * 2 ^ n
   exact-in-ulps = Units.reciprocal-exact k n
 
-  pub reciprocal-of-one : 2 * k + 3 ≤ n → reciprocal k n (2 ^ n) ≡ ulpsInOne k
-  reciprocal-of-one enough = Reciprocals.reciprocal-of-least k n (2 ^ n) enough refl
+  pub reciprocal-of-one : reciprocal k n (2 ^ n) ≡ ulpsInOne k
+  reciprocal-of-one = Reciprocals.reciprocal-of-least k n (2 ^ n) refl
 
 -- Given means right: nothing is assumed of the image s, nor of k, n and X, but that a reciprocal is given.
 module _ (k : ℕ) (s : List ℕ) (n X : ℕ) (given : reciprocalOutcome k s n X .number ≡ 0) where
@@ -67,31 +71,52 @@ module _ (k : ℕ) (s : List ℕ) (n X : ℕ) (given : reciprocalOutcome k s n X
   pub given-high : reciprocalOutcome k s n X .value * X < 2 ^ (n + 2 * k + 1) + X
   given-high = Reciprocals.given-has k n X s given (λ R. R * X < 2 ^ (n + 2 * k + 1) + X) (bound-high k n X)
 
--- Bits to the right: m bits b written to the right of any X, normalised or not.
+-- Bits to the right: m bits b written to the right of any X, normalised or not, that has 2k + 3 fraction bits or more.
 module _ (k n m X b : ℕ) (enough : 2 * k + 3 ≤ n) (bits : b < 2 ^ m) where
   -- they do not change R
   pub longer-reciprocal : reciprocal k (n + m) (X * 2 ^ m + b) ≡ reciprocal k n X
-  longer-reciprocal = Longer.reciprocal-same k n m X b enough bits
+  longer-reciprocal = Longer.reciprocal-same k n m X b (Longer.all-behind k n m b enough bits)
 
   -- nor, up to 63 in all, the answer: number, place and value from the same image, whatever it holds and however long it is
   pub longer-answer : n + m ≤ 63 → (s : List ℕ) → reciprocalOutcome k s (n + m) (X * 2 ^ m + b) ≡ reciprocalOutcome k s n X
-  longer-answer = Longer.outcome-same k n m X b enough bits
+  longer-answer = Longer.outcome-same k n m X b (Longer.all-behind k n m b enough bits) (omega (arith, enough))
+
+-- Where X has fewer, so that some of the m bits come to stand among the first 2k + 3 fraction bits, the same holds where those are zero: b is
+-- below 2^(n+m-2k-3). The difference stops at 0, so that b is 0 where all m of them are among the first.
+module _ (k n m X b : ℕ) (few : n ≤ 2 * k + 3) (zeros : b < 2 ^ (n + m - (2 * k + 3))) where
+  pub padded-reciprocal : reciprocal k (n + m) (X * 2 ^ m + b) ≡ reciprocal k n X
+  padded-reciprocal = Longer.reciprocal-same k n m X b (Longer.zeros-before k n m b few zeros)
+
+  pub padded-answer : 1 ≤ n → n + m ≤ 63 → (s : List ℕ) → reciprocalOutcome k s (n + m) (X * 2 ^ m + b) ≡ reciprocalOutcome k s n X
+  padded-answer = Longer.outcome-same k n m X b (Longer.zeros-before k n m b few zeros)
+
+-- Zeros change nothing at any n: whoever pads an operand by himself gets what he gets without.
+module _ (k n m X : ℕ) where
+  pub zeros-reciprocal : reciprocal k (n + m) (X * 2 ^ m) ≡ reciprocal k n X
+  zeros-reciprocal = Longer.reciprocal-zeros k n m X
+
+  pub zeros-answer : 1 ≤ n → n + m ≤ 63 → (s : List ℕ) → reciprocalOutcome k s (n + m) (X * 2 ^ m) ≡ reciprocalOutcome k s n X
+  zeros-answer = Longer.outcome-zeros k n m X
+
+-- A written bit that is not zero can change R: at k = 2, where t has 7 fraction bits, X = 64 with 6 of them has another R than 129 with 7.
+pub written-bit-counts : (reciprocal 2 6 64 ≡ 32) × (reciprocal 2 (6 + 1) (64 * 2 ^ 1 + 1) ≡ 31)
+written-bit-counts = Longer.of-64-and-129
 
 -- R runs from 2^(2k) to 2^(2k+1).
-module _ (k n X : ℕ) (enough : 2 * k + 3 ≤ n) (least : 2 ^ n ≤ X) (below : X < 2 ^ (n + 1)) where
+module _ (k n X : ℕ) (least : 2 ^ n ≤ X) (below : X < 2 ^ (n + 1)) where
   pub reciprocal-from : 2 ^ (2 * k) ≤ reciprocal k n X
-  reciprocal-from = Reciprocals.reciprocal-least k n X enough (least, below)
+  reciprocal-from = Reciprocals.reciprocal-least k n X (least, below)
 
   pub reciprocal-to : reciprocal k n X ≤ 2 ^ (2 * k + 1)
-  reciprocal-to = Reciprocals.reciprocal-most k n X enough (least, below)
+  reciprocal-to = Reciprocals.reciprocal-most k n X (least, below)
 
--- Both ends are reached: by the least operand and by the greatest.
-module _ (k n X : ℕ) (enough : 2 * k + 3 ≤ n) where
+-- Both ends are reached: by the least operand, and by the greatest where none of its bits lacks.
+module _ (k n X : ℕ) where
   pub reciprocal-of-least : X ≡ 2 ^ n → reciprocal k n X ≡ 2 ^ (2 * k + 1)
-  reciprocal-of-least = Reciprocals.reciprocal-of-least k n X enough
+  reciprocal-of-least = Reciprocals.reciprocal-of-least k n X
 
-  pub reciprocal-of-greatest : X + 1 ≡ 2 ^ (n + 1) → reciprocal k n X ≡ 2 ^ (2 * k)
-  reciprocal-of-greatest = Reciprocals.reciprocal-of-greatest k n X enough
+  pub reciprocal-of-greatest : 2 * k + 3 ≤ n → X + 1 ≡ 2 ^ (n + 1) → reciprocal k n X ≡ 2 ^ (2 * k)
+  reciprocal-of-greatest = Reciprocals.reciprocal-of-greatest k n X
 
 -- The difference of two neighbouring nodes and f are each below 2^(k+3) (document 002, Lemma 1), at every node and at every t,
 pub node-difference : (k j : ℕ) → node k j - node k (j + 1) < 2 ^ (k + 3)

@@ -75,26 +75,26 @@ module _ (k : ℕ) (s t : List ℕ) (l : IsLongEnough k s) (m : IsLongEnough k t
   pub reciprocal-same : (n X : ℕ) → (nodeNumber k (cutOperand k n X) < 2 ^ k → wordOf k s (nodeNumber k (cutOperand k n X)) ≡ wordOf k t (nodeNumber k (cutOperand k n X)))
       → (nodeNumber k (cutOperand k n X) + 1 < 2 ^ k → wordOf k s (nodeNumber k (cutOperand k n X) + 1) ≡ wordOf k t (nodeNumber k (cutOperand k n X) + 1))
       → reciprocalOutcome k s n X ≡ reciprocalOutcome k t n X
-  reciprocal-same n X e d = rest-same (limits s) (limits t) (value s) (value t) (by (eqb (operandNumber k n X) 0) refl)
+  reciprocal-same n X e d = rest-same (limits s) (limits t) (value s) (value t) (by (eqb (operandNumber n X) 0) refl)
     where
       words : List ℕ → List Refusal
       words u = cutRefusals k u (cutOperand k n X)
 
       limits : List ℕ → List Refusal
-      limits u = fractionRefusal k n ∷ operandRefusal n X ∷ words u
+      limits u = fractionRefusal n ∷ operandRefusal n X ∷ words u
 
       value : List ℕ → ℕ
       value u = readReciprocal k u (cutOperand k n X)
 
-      by : (b : Bool) → eqb (operandNumber k n X) 0 ≡ b → outcome (limits s) (value s) ≡ outcome (limits t) (value t)
+      by : (b : Bool) → eqb (operandNumber n X) 0 ≡ b → outcome (limits s) (value s) ≡ outcome (limits t) (value t)
       by true z =
-          let none = eqb-true (operandNumber k n X) 0 z in
-          let o = operand-kept k n X none in
-          let h = has-word k n X (o .enough) (o .least, o .below) in
-          operand-passes k n X (words s) (value s) none
+          let none = eqb-true (operandNumber n X) 0 z in
+          let o = operand-kept n X none in
+          let h = has-word k n X (o .least, o .below) in
+          operand-passes n X (words s) (value s) none
           ∙ cut-same (cutOperand k n X) h (e h) d
-          ∙ sym (operand-passes k n X (words t) (value t) none)
-      by false z = operand-refuses k n X (words s) (value s) (eqb-false (operandNumber k n X) 0 z) ∙ sym (operand-refuses k n X (words t) (value t) (eqb-false (operandNumber k n X) 0 z))
+          ∙ sym (operand-passes n X (words t) (value t) none)
+      by false z = operand-refuses n X (words s) (value s) (eqb-false (operandNumber n X) 0 z) ∙ sym (operand-refuses n X (words t) (value t) (eqb-false (operandNumber n X) 0 z))
 
   pub check-same : ((j : ℕ) → j < 2 ^ k → wordOf k s j ≡ wordOf k t j) → checkOutcome k s ≡ checkOutcome k t
   check-same e =

@@ -77,11 +77,11 @@ pub no-precision : (k : ℕ) → T (not (inRange k)) ↔ (IsPrecision k → ⊥)
 no-precision k = broken (inRange k) (in-range k) (λ p. range-in k (p .0) (p .1))
 
 -- n is a count of fraction bits
-pub is-count : (k n : ℕ) → T (not (not (isFractionCount k n))) ↔ IsFractionCount k n
-is-count k n = kept (isFractionCount k n) (count-in k n) (λ c. in-count k n (c .0) (c .1))
+pub is-count : (n : ℕ) → T (not (not (isFractionCount n))) ↔ IsFractionCount n
+is-count n = kept (isFractionCount n) (count-in n) (λ c. in-count n (c .0) (c .1))
 
-pub no-count : (k n : ℕ) → T (not (isFractionCount k n)) ↔ (IsFractionCount k n → ⊥)
-no-count k n = broken (isFractionCount k n) (count-in k n) (λ c. in-count k n (c .0) (c .1))
+pub no-count : (n : ℕ) → T (not (isFractionCount n)) ↔ (IsFractionCount n → ⊥)
+no-count n = broken (isFractionCount n) (count-in n) (λ c. in-count n (c .0) (c .1))
 
 -- X is normalised
 pub is-normalised : (n X : ℕ) → T (not (not (isNormalised n X))) ↔ IsNormalised n X

@@ -1,5 +1,5 @@
--- The set examples of document 01 that are marked P and its printed table, as literals, and what each says of the definitions that the
--- contracts cite.
+-- The set examples of document 01 that are marked P, those of the requests, and the printed table, as literals, and what each says of the
+-- definitions that the contracts cite.
 -- Assumes nothing.
 use mathlib.Core.Path.{_≡_}
 use mathlib.Core.List.{List, [], _∷_, _++_, map}
@@ -69,6 +69,8 @@ reciprocalExamples =
     ∷ record { from = image2; n = 7; X = 135; P = 3921 ∷ []; R = 30 }
     ∷ record { from = image2; n = 7; X = 160; P = []; R = 25 }
     ∷ record { from = image2; n = 7; X = 255; P = []; R = 16 }
+    ∷ record { from = image2; n = 6; X = 64; P = []; R = 32 }
+    ∷ record { from = image2; n = 6; X = 127; P = []; R = 16 }
     ∷ record { from = image2; n = 63; X = 9223372036854775809; P = []; R = 32 }
     ∷ record { from = image2; n = 63; X = 18446744073709551615; P = []; R = 16 }
     ∷ record { from = image1; n = 5; X = 32; P = []; R = 8 }

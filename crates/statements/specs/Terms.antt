@@ -20,9 +20,9 @@ IsLongEnough k s = imageLength k ≤ length s
 abbrev pub IsRightAt : ℕ → List ℕ → ℕ → Type 0
 IsRightAt k s j = wordOf k s j ≡ node k j % 2 ^ (2 * k + 2)
 
--- n is from 2k + 3 to 63
-abbrev pub IsFractionCount : ℕ → ℕ → Type 0
-IsFractionCount k n = (2 * k + 3 ≤ n) × (n ≤ 63)
+-- n is from 1 to 63
+abbrev pub IsFractionCount : ℕ → Type 0
+IsFractionCount n = (1 ≤ n) × (n ≤ 63)
 
 -- X is normalised: from 2^n to 2^(n+1) - 1
 abbrev pub IsNormalised : ℕ → ℕ → Type 0
