@@ -81,12 +81,13 @@ def proofread():
 
 
 def reciprocals():
-    """Operands of document 01 and others, as arguments and as lines, some of them out of their limits."""
+    """Operands of document 01 and others, short ones among them, as arguments and as lines, some of them out of their limits."""
     rng = random.Random(7)
     asked = [(2, 7, [128, 129, 135, 160, 255]), (2, 63, [2 ** 63 + 1, 2 ** 64 - 1]), (1, 5, [32, 63]), (2, 7, [127, 128, 256, 255]),
-             *((2, n, [135, 0]) for n in (0, 6, 64, 2 ** 32 - 1)), *((2, 7, [x, 128]) for x in (0, 2 ** 32 + 2, 2 ** 64 - 1))]
+             *((2, n, [135, 1, 0]) for n in (0, 64, 2 ** 32 - 1)), *((2, 7, [x, 128]) for x in (0, 2 ** 32 + 2, 2 ** 64 - 1)),
+             *((2, n, range(2 ** n - 1, 2 ** (n + 1) + 1)) for n in range(1, 8))]  # all up to 7 bits, and the next to them
     for k in range(1, 13):
-        for n in (2 * k + 3, rng.randint(2 * k + 3, 63), 63):
+        for n in (1, rng.randint(1, 2 * k + 2), 2 * k + 2, 2 * k + 3, rng.randint(2 * k + 3, 63), 63):
             asked.append((k, n, [2 ** n, 2 ** (n + 1) - 1, *(2 ** n + rng.randrange(2 ** n) for _ in range(20))]))
     for k, n, operands in asked:
         expected = (*lines_of(k, n, operands), "")
@@ -125,7 +126,7 @@ def mistakes():
         short.write_bytes(reference.image(k)[:length])
         yield "proofread", [str(k), short], b"", 1, "proofread: refusal 2: "
     for text in NO_NUMBER:
-        yield "reciprocals", ["2", text, "135"], b"", 2, "reciprocals: N is not a number from 2K + 3 to 63"
+        yield "reciprocals", ["2", text, "135"], b"", 2, "reciprocals: N is not a number from 1 to 63"
         if "4294967298" != text:
             yield "reciprocals", ["2", "7", text], b"", 2, "reciprocals: operand 1 is not a number below 2^64"
     for text in b"\n", b" 135\n", b"135 \n", b"135\r\n", b"135\0\n", b"135\0", b"\0", b"-135", b"135,136\n", b"9" * 10 ** 6, b"\xff\n":

@@ -70,8 +70,8 @@ def units_apart(compiler, error):
 # ---- the calls
 
 CONSTANTS = {"SERVED": 0, "PRECISION": 1, "SHORT_BUFFER": 2, "NODE_NUMBER": 3, "FRACTION_BITS": 4, "NOT_NORMALISED": 5, "WRONG_WORD": 6,
-             "LEAST_PRECISION": 1, "GREATEST_PRECISION": 12, "LONGEST_IMAGE": 13312, "MOST_FRACTION_BITS": 63,
-             "TABLE_UNITS_IN_ULP": 4}  # as document 01 has them
+             "LEAST_PRECISION": 1, "GREATEST_PRECISION": 12, "LONGEST_IMAGE": 13312, "LEAST_FRACTION_BITS": 1, "MOST_FRACTION_BITS": 63,
+             "TABLE_UNITS_IN_ULP": 4}  # as document 01 has them, and Q-1 the fewest fraction bits
 NUMBERS = {"build": {0, 1, 2}, "check": {0, 1, 2, 6}, "node": {0, 1, 2, 3, 6}, "reciprocal": {0, 1, 2, 4, 5, 6}}
 
 
@@ -116,6 +116,7 @@ def answer(call, k, buffer, numbers):
 def calls_compared():
     k, buffer = 0, b""
     asked = collections.defaultdict(set)
+    operands = collections.defaultdict(set)  # by precision and fraction bits: each operand with its number, but for refusals 1, 2 and 6
     for line in calls_printed().splitlines():
         call, *words = line.split(" ")
         if call in ("constant", "limits", "length", "node_8"):
@@ -130,10 +131,28 @@ def calls_compared():
         if line != expected:
             return f"precision {k}, {len(buffer)} bytes: printed {line[:100]!r}, expected {expected[:100]!r}"
         asked[call].add(int(words[{"build": 0, "check": 0, "node": 1}.get(call, 2)]))
+        if call == "reciprocal" and numbers[2] in (0, 4, 5):
+            operands[k, numbers[0]].add((numbers[1], numbers[2]))
     if not {*range(15), 2 ** 32 - 1} <= asked["lent"] or not {*range(21), 2 ** 32 - 1} <= asked["null"]:
         return f"the precisions are {asked['lent']}, with no buffer {asked['null']}"
     short = {call: asked[call] for call in NUMBERS if asked[call] != NUMBERS[call]}
-    return f"not every number was answered: {short}" if short else None
+    if short:
+        return f"not every number was answered: {short}"
+    return ends_asked(operands)
+
+
+def ends_asked(operands):
+    """At each precision the operands were asked for that Q-1 names: at each n up to 2k + 4, and at 63, the least and the greatest, which
+    are served, and the next to them, which are refused by 5; and n = 0 and 64, refused by 4."""
+    for k in range(1, 13):
+        for n in (*range(1, 2 * k + 5), 63):
+            ends = {(2 ** n, 0), (2 ** (n + 1) - 1, 0), (2 ** n - 1, 5), (2 ** (n + 1) % 2 ** 64, 5)}
+            if not ends <= operands[k, n]:
+                return f"precision {k}, {n} fraction bits: not found were {sorted(ends - operands[k, n])}"
+        for n in (0, 64):
+            if {number for _, number in operands[k, n]} != {4}:
+                return f"precision {k}, {n} fraction bits: {sorted(operands[k, n])}"
+    return None
 
 
 def printed_below(word):
@@ -147,7 +166,7 @@ def constants():
 
 def limits():
     found = [tuple(map(int, row)) for row in printed_below("limits")]
-    expected = [(k, 2 ** k, reference.width(k), 2 * k + 3) for k in range(1, 13)]
+    expected = [(k, 2 ** k, reference.width(k)) for k in range(1, 13)]
     return None if found == expected else f"{found}"
 
 
@@ -181,7 +200,7 @@ def memory_checked():
 
 def past_image():
     """No byte past the image is read or written, where the buffer is longer."""
-    calls = 12 * 2 + 3 * sum(2 ** k for k in range(1, 13))
+    calls = 12 * 2 + 4 * sum(2 ** k for k in range(1, 13))
     found = well(built("past_image"))
     return None if found == f"{calls} of {calls}\n" else f"served were {found}"
 
@@ -249,7 +268,7 @@ def tests():
     yield "c: packed structs are refused", lambda: refused(
         ["gcc"], "header_alone.c", ["-fpack-struct=1"], "size of array .yildegga_laid_out_as_in_the_archive. is negative")
     yield "c: another machine is refused", lambda: refused(["gcc"], "header_alone.c", ["-m32"], "#error .libyildegga.a is for x86-64")
-    yield "c: the constants of the header are document 01's", constants
+    yield "c: the constants of the header", constants
     yield "c: the limits of each precision", limits
     yield "c: the image lengths, by the call and by the header", lengths
     yield "c: the constant nodes of precision 8", constant_nodes

@@ -57,7 +57,7 @@ def word_is_right(k, buffer, j):
 
 def cut(k, x):
     """The operand's leading bits: the k + 1 of i, which begin with its leading one, and the k + 3 of f after them."""
-    bits = format(x, "b")
+    bits = format(x, "b").ljust(2 * k + 4, "0")
     return bits[:k + 1], bits[k + 1:2 * k + 4]
 
 
@@ -121,7 +121,7 @@ def call_reciprocal(k, buffer, n, x):
     number = first_two(k, buffer)
     if number:
         return (number, 0, 0)
-    if n < 2 * k + 3 or n > MOST_BITS:
+    if n < 1 or n > MOST_BITS:
         return (4, 0, 0)
     if not 2 ** n <= x <= 2 ** (n + 1) - 1:
         return (5, 0, 0)

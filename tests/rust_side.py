@@ -268,12 +268,13 @@ def proofread():
 
 
 def reciprocals():
-    """Operands as arguments and as lines of standard input, at each precision, some of them out of their limits."""
+    """Operands as arguments and as lines of standard input, at each precision, short ones and some out of their limits among them."""
     rng = random.Random(2)
     lists = [(2, 7, [128, 129, 135, 160, 255]), (2, 63, [2 ** 63 + 1, 2 ** 64 - 1]), (1, 5, [32, 63]), (2, 7, [127, 128, 256]),
-             (2, 6, [64]), (2, 64, [2 ** 63]), (2, 2 ** 32 - 1, [0])]
+             (2, 6, [63, 64, 127, 128]), (2, 0, [0, 1]), (2, 64, [2 ** 63]), (2, 2 ** 32 - 1, [0]),
+             *((2, n, range(2 ** n - 1, 2 ** (n + 1) + 1)) for n in range(1, 8))]  # all up to 7 bits, and the next to them
     for k in range(1, 13):
-        for n in (2 * k + 3, 2 * k + 4, 52, 63):
+        for n in (1, rng.randint(1, 2 * k + 2), 2 * k + 2, 2 * k + 3, 2 * k + 4, 52, 63):
             lists.append((k, n, [2 ** n, 2 ** (n + 1) - 1, *(rng.randrange(2 ** n, 2 ** (n + 1)) for _ in range(40))]))
         lists.append((k, rng.randrange(70), [rng.getrandbits(rng.randint(1, 64)) for _ in range(20)]))
     seen = set()

@@ -53,8 +53,8 @@ def reciprocals():
         yield [k, "7", "128", "135"], b""
         yield [k, "7"], b"128\n"
         yield ["2", k, "128", "135"], b""
-    for n in "0", "6", "7", "007", "63", "64", "4294967295":
-        yield ["2", n, "128", "9223372036854775809"], b""
+    for n in "0", "1", "6", "7", "007", "63", "64", "4294967295":
+        yield ["2", n, "1", "2", "64", "128", "9223372036854775809"], b""
     for x in ["0", "127", "128", "0128", "0" * 400 + "128", "255", "256", *WIDE, *NO_NUMBER]:
         yield ["2", "7", x], b""
         yield ["2", "7", "255", "0", x, "128"], b""  # one served and one refused before it, one after it
@@ -67,10 +67,10 @@ def reciprocals():
         yield ["13", "7"], text
     rng = random.Random(5)
     for k in range(1, 13):
-        n = rng.randint(2 * k + 3, 63)
-        operands = [str(rng.randrange(2 ** n, 2 ** (n + 1)) if rng.random() < 0.8 else rng.getrandbits(64)) for _ in range(500)]
-        yield [str(k), str(n), *operands], b""
-        yield [str(k), str(n)], "\n".join(operands).encode()
+        for n in rng.randint(1, 2 * k + 2), rng.randint(2 * k + 3, 63):
+            operands = [str(rng.randrange(2 ** n, 2 ** (n + 1)) if rng.random() < 0.8 else rng.getrandbits(64)) for _ in range(500)]
+            yield [str(k), str(n), *operands], b""
+            yield [str(k), str(n)], "\n".join(operands).encode()
 
 
 def ran(program, words, **streams):

@@ -42,7 +42,7 @@ static inline const char *refusal(uint32_t number)
     case YILDEGGA_PRECISION: return "the precision is below 1 or above 12";
     case YILDEGGA_SHORT_BUFFER: return "the buffer is shorter than the image";
     case YILDEGGA_NODE_NUMBER: return "the node number is above 2^k";
-    case YILDEGGA_FRACTION_BITS: return "the fraction bits are fewer than 2k + 3 or more than 63";
+    case YILDEGGA_FRACTION_BITS: return "the fraction bits are fewer than 1 or more than 63";
     case YILDEGGA_NOT_NORMALISED: return "the operand is not from 2^n to 2^(n+1) - 1";
     case YILDEGGA_WRONG_WORD: return "the word is not the construction's";
     default: return "served";

@@ -43,7 +43,7 @@ int main(int argc, char **argv)
     if (!read_number_32(argv[1], strlen(argv[1]), &k))
         return not_called("reciprocals", "K is not a number from 1 to 12");
     if (!read_number_32(argv[2], strlen(argv[2]), &n))
-        return not_called("reciprocals", "N is not a number from 2K + 3 to 63");
+        return not_called("reciprocals", "N is not a number from 1 to 63");
     yildegga_done built = yildegga_build(k, image, sizeof image);
     if (built.number != YILDEGGA_SERVED)
         return turned_back("reciprocals", built.number);

@@ -2,8 +2,9 @@
  *
  * A precision k from 1 to 12 has a node j for each j from 0 to 2^k, whose value is 2^(3k+3) / (2^k + j), rounded up and counted
  * in table units of 1 / 2^(2k+3). Its image is the words of the nodes below 2^k, of 2k + 2 bits each, packed with the most
- * significant bit first. An operand x with n fraction bits stands for x / 2^n; its reciprocal is counted in ulps of 1 / 2^(2k+1)
- * and lies less than one ulp from 2^n / x.
+ * significant bit first. An operand x with n fraction bits, 1 to 63 at every k, stands for x / 2^n. The first 2k + 3 of them are
+ * looked at: further ones are cut off, and where x has fewer, it is padded with zeros. Its reciprocal is counted in ulps of
+ * 1 / 2^(2k+1) and lies less than one ulp from 2^n / x, at every n.
  *
  * No call has a precondition on its numbers. What breaks a limit is turned back with the number of the first refusal that
  * applies, in the order of their numbers, and with every lent byte left as it was. These promises are proved. What the proofs
@@ -36,7 +37,7 @@ extern "C" {
 #define YILDEGGA_PRECISION 1u      /* k is below 1 or above 12 */
 #define YILDEGGA_SHORT_BUFFER 2u   /* the buffer is shorter than the image of k */
 #define YILDEGGA_NODE_NUMBER 3u    /* j is above 2^k */
-#define YILDEGGA_FRACTION_BITS 4u  /* n is below 2k + 3 or above 63 */
+#define YILDEGGA_FRACTION_BITS 4u  /* n is below 1 or above 63 */
 #define YILDEGGA_NOT_NORMALISED 5u /* x is not from 2^n to 2^(n+1) - 1 */
 #define YILDEGGA_WRONG_WORD 6u     /* a word that the call reads is not the construction's: the place is the lowest such node */
 
@@ -44,6 +45,7 @@ extern "C" {
 #define YILDEGGA_LEAST_PRECISION 1u
 #define YILDEGGA_GREATEST_PRECISION 12u
 #define YILDEGGA_LONGEST_IMAGE 13312u /* bytes, at precision 12 */
+#define YILDEGGA_LEAST_FRACTION_BITS 1u
 #define YILDEGGA_MOST_FRACTION_BITS 63u
 #define YILDEGGA_TABLE_UNITS_IN_ULP 4u
 
@@ -53,7 +55,6 @@ extern "C" {
 #define YILDEGGA_IMAGE_LENGTH(k) ((k) < 1 || (k) > 12 ? 0u : (((k) + 1u) << ((k) & 15u)) / 4u) /* & 15u: no shift too far */
 #define YILDEGGA_LAST_NODE(k) (1u << (k))
 #define YILDEGGA_WORD_BITS(k) (2u * (k) + 2u)
-#define YILDEGGA_LEAST_FRACTION_BITS(k) (2u * (k) + 3u)
 
 /* Counts of the two units are separate types, so that the one is never taken for the other. */
 typedef struct { uint64_t count; } yildegga_table_units; /* 1 / 2^(2k+3) each */
@@ -98,6 +99,7 @@ yildegga_table_units yildegga_node_8(uint32_t j);
 yildegga_part yildegga_word_bytes(uint32_t k, const uint8_t *image, size_t length, uint32_t j);
 
 /* The reciprocal of x with n fraction bits, from 2^(2k) to 2^(2k+1) ulps, by the nodes on both sides of x, whose words are judged.
+   The first 2k + 3 fraction bits decide it, and those that x lacks count as zeros.
    Refusals: 1, 2, 4, 5, 6. */
 yildegga_reciprocal_given yildegga_reciprocal(uint32_t k, const uint8_t *image, size_t length, uint32_t n, uint64_t x);
 

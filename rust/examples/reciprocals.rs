@@ -21,7 +21,7 @@ fn reciprocals() -> Result<u8, Box<dyn Error>> {
         return Err("usage: reciprocals K N [X...]".into());
     };
     let k = k.to_str().and_then(caller::number).ok_or("K is not a number from 1 to 12")?;
-    let n = n.to_str().and_then(caller::number).ok_or("N is not a number from 2K + 3 to 63")?;
+    let n = n.to_str().and_then(caller::number).ok_or("N is not a number from 1 to 63")?;
 
     let mut image = vec![0; yildegga::image_length(k).unwrap_or(0)];
     yildegga::build(k, &mut image)?;

@@ -7,7 +7,7 @@
 //! - [`check`] tells whether an image is right, and names the lowest node whose word is not;
 //! - [`node`] reads one node, [`word_bytes`] and [`word_range`] show the bytes that hold its word;
 //! - [`node_8`] gives a node of precision 8 without an image;
-//! - [`reciprocal`] gives the reciprocal of an operand, less than one ulp from the exact one;
+//! - [`reciprocal`] gives the reciprocal of an operand of 1 to 63 fraction bits, less than one ulp from the exact one;
 //! - a [`BoundTable`] keeps an image and its precision together for many operands.
 //!
 //! No call has a precondition: whatever breaks a limit is turned back as a [`Refused`], with a number and a place, and leaves every
@@ -42,7 +42,7 @@ mod units;
 pub use bound::BoundTable;
 pub use eight::node_8;
 pub use image::{build, check, image_length, node, word_bytes, word_range};
-pub use limits::{last_node, least_fraction_bits, word_bits, GREATEST_PRECISION, LEAST_PRECISION, LONGEST_IMAGE, MOST_FRACTION_BITS};
+pub use limits::{last_node, word_bits, GREATEST_PRECISION, LEAST_FRACTION_BITS, LEAST_PRECISION, LONGEST_IMAGE, MOST_FRACTION_BITS};
 pub use operand::reciprocal;
 pub use refusal::{Refusal, Refused};
 pub use units::{TableUnits, Ulps, TABLE_UNITS_IN_ULP};

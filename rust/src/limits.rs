@@ -24,7 +24,17 @@ pub const GREATEST_PRECISION: u32 = 12;
 /// ```
 pub const LONGEST_IMAGE: usize = 13312;
 
-/// The most fraction bits that an operand has; the fewest are 2k + 3.
+/// The fewest fraction bits that an operand has, at every precision.
+///
+/// ```
+/// use yildegga::{reciprocal, Ulps, LEAST_FRACTION_BITS};
+/// let image = [0x02, 0x75, 0x8A];
+/// assert_eq!(reciprocal(2, &image, LEAST_FRACTION_BITS, 2), Ok(Ulps(32)));
+/// assert_eq!(reciprocal(2, &image, LEAST_FRACTION_BITS - 1, 1).unwrap_err().number(), 4);
+/// ```
+pub const LEAST_FRACTION_BITS: u32 = 1;
+
+/// The most fraction bits that an operand has, at every precision.
 ///
 /// ```
 /// use yildegga::{Ulps, MOST_FRACTION_BITS};
@@ -60,24 +70,6 @@ pub const fn last_node(k: u32) -> Option<u32> {
 pub const fn word_bits(k: u32) -> Option<u32> {
     if is_precision(k) {
         Some(2 * k + 2)
-    } else {
-        None
-    }
-}
-
-/// The fewest fraction bits that an operand has, 2k + 3; `None` where k is no precision.
-///
-/// ```
-/// use yildegga::{least_fraction_bits, reciprocal, Ulps};
-/// let image = [0x02, 0x75, 0x8A];
-/// assert_eq!(least_fraction_bits(2), Some(7));
-/// assert_eq!(reciprocal(2, &image, 7, 128)?, Ulps(32));
-/// assert_eq!(reciprocal(2, &image, 6, 64).unwrap_err().number(), 4);
-/// # Ok::<(), yildegga::Refused>(())
-/// ```
-pub const fn least_fraction_bits(k: u32) -> Option<u32> {
-    if is_precision(k) {
-        Some(2 * k + 3)
     } else {
         None
     }

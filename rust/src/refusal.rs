@@ -21,7 +21,7 @@ pub enum Refusal {
     ShortBuffer = 2,
     /// The node number is above 2^k.
     NodeNumber = 3,
-    /// The fraction bits are fewer than 2k + 3 or more than 63.
+    /// The fraction bits are fewer than 1 or more than 63.
     FractionBits = 4,
     /// The operand is not from 2^n to 2^(n+1) - 1.
     NotNormalised = 5,
@@ -47,7 +47,7 @@ impl fmt::Display for Refusal {
             Refusal::Precision => "the precision is below 1 or above 12",
             Refusal::ShortBuffer => "the buffer is shorter than the image",
             Refusal::NodeNumber => "the node number is above 2^k",
-            Refusal::FractionBits => "the fraction bits are fewer than 2k + 3 or more than 63",
+            Refusal::FractionBits => "the fraction bits are fewer than 1 or more than 63",
             Refusal::NotNormalised => "the operand is not from 2^n to 2^(n+1) - 1",
             Refusal::WrongWord => "the word is not the construction's",
         })

@@ -1,4 +1,4 @@
-//! The set examples of document 01, its cases at the limits, and the errors that the tables invite.
+//! The set examples of document 01, its cases at the limits as Q-1 of document 02 has them, and the errors that the tables invite.
 #![forbid(unsafe_code)]
 
 mod common;
@@ -113,7 +113,9 @@ fn nodes_and_words_at_the_end() {
 
 #[test]
 fn operands_at_the_limits() {
-    assert_eq!(reciprocal_by_both(2, &TWO, 6, 64), Err((4, 0)));
+    assert_eq!(reciprocal_by_both(2, &TWO, 6, 64), Ok(Ulps(32)));
+    assert_eq!(reciprocal_by_both(2, &TWO, 6, 127), Ok(Ulps(16)));
+    assert_eq!(reciprocal_by_both(2, &TWO, 0, 1), Err((4, 0)));
     assert_eq!(reciprocal_by_both(2, &TWO, 64, 1 << 63), Err((4, 0)));
     assert_eq!(reciprocal_by_both(2, &TWO, 7, 127), Err((5, 0)));
     assert_eq!(reciprocal_by_both(2, &TWO, 7, 256), Err((5, 0)));

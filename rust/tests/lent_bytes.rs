@@ -59,8 +59,8 @@ fn reading_writes_nothing() {
         for j in [0, 1, 1 << k, u32::MAX] {
             let _ = (node(k, image, j), table.node(j), word_bytes(k, image, j).len());
         }
-        for x in [1 << 63, u64::MAX, 0] {
-            let _ = (reciprocal(k, image, 63, x), table.reciprocal(63, x));
+        for (n, x) in [(63, 1 << 63), (63, u64::MAX), (63, 0), (1, 2), (1, 3), (k, (2 << k) - 1)] {
+            let _ = (reciprocal(k, image, n, x), table.reciprocal(n, x));
         }
         assert_eq!(after, before);
     }
@@ -79,7 +79,9 @@ fn nothing_past_the_image_is_read() {
                 assert_eq!(said(node(k, &longer, j)), said(node(k, &exact, j)));
                 assert_eq!(word_range(k, &longer, j), word_range(k, &exact, j));
             }
-            assert_eq!(said(reciprocal(k, &longer, 63, u64::MAX)), said(reciprocal(k, &exact, 63, u64::MAX)));
+            for (n, x) in [(63, u64::MAX), (k, (2 << k) - 1)] {
+                assert_eq!(said(reciprocal(k, &longer, n, x)), said(reciprocal(k, &exact, n, x)));
+            }
         }
     }
 }

@@ -3,9 +3,9 @@
 
 mod common;
 
-use common::{image, said, LENGTHS};
+use common::{image, is_near, rule, said, LENGTHS};
 use yildegga::{build, check, image_length, node, reciprocal, word_bytes, word_range, BoundTable, Refusal, TableUnits, Ulps};
-use yildegga::{GREATEST_PRECISION, LEAST_PRECISION, LONGEST_IMAGE, MOST_FRACTION_BITS, TABLE_UNITS_IN_ULP};
+use yildegga::{GREATEST_PRECISION, LEAST_FRACTION_BITS, LEAST_PRECISION, LONGEST_IMAGE, MOST_FRACTION_BITS, TABLE_UNITS_IN_ULP};
 
 fn precisions() -> Vec<u32> {
     [0, 13, 14, 31, 32, 63, 64, 255, 256, 257, 1 << 16, (1 << 16) + 1, 1 << 31, u32::MAX - 1, u32::MAX].into_iter().chain(1..=12).collect()
@@ -77,14 +77,14 @@ fn of_a_node() {
 fn of_an_operand() {
     let mut numbers = [0; 6];
     each_buffer(|k, buffer| {
-        let least = 2 * k.min(1 << 16) + 3;
-        for n in [0, 1, least - 1, least, least + 1, 31, 32, 62, 63, 64, 65, 127, 128, 1 << 31, u32::MAX] {
+        let kept = 2 * k.min(1 << 16) + 3; // the fraction bits that are looked at, where k is a precision
+        for n in [0, 1, 2, kept - 1, kept, kept + 1, 31, 32, 62, 63, 64, 65, 127, 128, 1 << 31, u32::MAX] {
             let one = 1u64.checked_shl(n).unwrap_or(1 << 63);
             let ends = [one - 1, one, one + 1, one | (one - 1), (one | (one - 1)).wrapping_add(1)];
             for x in ends.into_iter().chain([0, 1, 1 << 32, 1 << 63, u64::MAX - 1, u64::MAX]) {
                 let expected = match first_two(k, buffer) {
                     Some((number, _)) => number,
-                    None if n < least || n > 63 => 4,
+                    None if n < 1 || n > 63 => 4,
                     None if u128::from(x) < 1 << n || u128::from(x) >= 2 << n => 5,
                     None => 0,
                 };
@@ -92,10 +92,10 @@ fn of_an_operand() {
                 let answer = said(reciprocal(k, buffer, n, x));
                 assert_eq!(said(BoundTable::new(k, buffer).reciprocal(n, x)), answer);
                 match answer {
-                    // Less than an ulp off: R × X differs from 2^(n+2k+1) by less than X.
-                    Ok(Ulps(r)) => {
+                    Ok(r) => {
                         assert_eq!(expected, 0, "k = {k}, {} bytes, n = {n}, X = {x}", buffer.len());
-                        assert!((u128::from(r) * u128::from(x)).abs_diff(1 << (n + 2 * k + 1)) < x.into());
+                        assert_eq!(r, rule(k, n, x), "k = {k}, n = {n}, X = {x}");
+                        assert!(is_near(k, n, x, r), "k = {k}, n = {n}, X = {x}");
                     }
                     Err(refused) => assert_eq!(refused, (expected, 0), "k = {k}, {} bytes, n = {n}, X = {x}", buffer.len()),
                 }
@@ -120,11 +120,13 @@ fn of_a_wrong_word() {
                 let value = said(node(k, &wrong, j));
                 assert_eq!(value, if j == bad { Err((6, bad.into())) } else { said(node(k, &right, j)) });
                 assert_eq!(said(table.node(j)), value);
-                let x = ((1 << k) + u64::from(j)) << (k + 3); // node j itself; the word of j + 1 is read too
-                let r = said(reciprocal(k, &wrong, 2 * k + 3, x));
                 let reads_it = j == bad || j + 1 == bad;
-                assert_eq!(r, if reads_it { Err((6, bad.into())) } else { said(reciprocal(k, &right, 2 * k + 3, x)) });
-                assert_eq!(said(table.reciprocal(2 * k + 3, x)), r);
+                for n in [k, 2 * k + 2, 2 * k + 3, 63] {
+                    let x = ((1 << k) + u64::from(j)) << (n - k); // node j itself; the word of j + 1 is read too
+                    let r = said(reciprocal(k, &wrong, n, x));
+                    assert_eq!(r, if reads_it { Err((6, bad.into())) } else { Ok(rule(k, n, x)) }, "k = {k}, bit {bit}, n = {n}");
+                    assert_eq!(said(table.reciprocal(n, x)), r);
+                }
             }
         }
     }
@@ -135,16 +137,21 @@ fn of_a_wrong_word() {
 fn before_a_wrong_word() {
     for k in 1..=12 {
         let wrong: Vec<u8> = image(k).iter().map(|byte| !byte).collect();
-        let (last, least) = (1 << k, 2 * k + 3);
+        let last = 1 << k;
         assert_eq!(said(check(k, &wrong)), Err((6, 0)));
         assert_eq!(said(check(k, &wrong[1..])), Err((2, 0)));
         assert_eq!(said(node(k, &wrong, last - 1)), Err((6, u64::from(last) - 1)));
         assert_eq!(said(node(k, &wrong, last)), Ok(TableUnits(1 << (2 * k + 2)))); // it reads no word
         assert_eq!(said(node(k, &wrong, last + 1)), Err((3, 0)));
-        assert_eq!(said(reciprocal(k, &wrong, least, 1 << least)), Err((6, 0)));
-        assert_eq!(said(reciprocal(k, &wrong, least, (2 << least) - 1)), Err((6, u64::from(last) - 1)));
-        assert_eq!(said(reciprocal(k, &wrong, least, 2 << least)), Err((5, 0)));
-        assert_eq!(said(reciprocal(k, &wrong, least - 1, 0)), Err((4, 0)));
+        for n in [k, 2 * k + 2, 2 * k + 3] {
+            assert_eq!(said(reciprocal(k, &wrong, n, 1 << n)), Err((6, 0)));
+            assert_eq!(said(reciprocal(k, &wrong, n, (2 << n) - 1)), Err((6, u64::from(last) - 1)));
+            assert_eq!(said(reciprocal(k, &wrong, n, (1 << n) - 1)), Err((5, 0)));
+            assert_eq!(said(reciprocal(k, &wrong, n, 2 << n)), Err((5, 0)));
+        }
+        assert_eq!(said(reciprocal(k, &wrong, 1, 3)), Err((6, u64::from(last) / 2))); // 3 / 2 is the node in the middle
+        assert_eq!(said(reciprocal(k, &wrong, 0, 0)), Err((4, 0)));
+        assert_eq!(said(reciprocal(k, &wrong, 0, 1)), Err((4, 0)));
         assert_eq!(said(reciprocal(k, &wrong, 64, 0)), Err((4, 0)));
         assert_eq!(said(reciprocal(k, &wrong[1..], 64, 0)), Err((2, 0)));
         assert_eq!(said(reciprocal(k + 12, &wrong[1..], 64, 0)), Err((1, 0)));
@@ -156,6 +163,8 @@ fn limits_by_name() {
     assert_eq!((image_length(LEAST_PRECISION - 1), image_length(LEAST_PRECISION)), (None, Some(1)));
     assert_eq!((image_length(GREATEST_PRECISION), image_length(GREATEST_PRECISION + 1)), (Some(LONGEST_IMAGE), None));
     let two = image(2);
+    assert_eq!(said(reciprocal(2, &two, LEAST_FRACTION_BITS, 2)), Ok(Ulps(32)));
+    assert_eq!(said(reciprocal(2, &two, LEAST_FRACTION_BITS - 1, 1)), Err((4, 0)));
     assert_eq!(said(reciprocal(2, &two, MOST_FRACTION_BITS, 1 << 63)), Ok(Ulps(32)));
     assert_eq!(said(reciprocal(2, &two, MOST_FRACTION_BITS + 1, 1 << 63)), Err((4, 0)));
     // At a node itself the reciprocal is the node, in ulps rounded down.
@@ -177,12 +186,7 @@ fn in_words() {
         (check(0, &two).unwrap_err(), Refusal::Precision, 1, "refusal 1: the precision is below 1 or above 12"),
         (check(2, &[]).unwrap_err(), Refusal::ShortBuffer, 2, "refusal 2: the buffer is shorter than the image"),
         (node(2, &two, 5).unwrap_err(), Refusal::NodeNumber, 3, "refusal 3: the node number is above 2^k"),
-        (
-            reciprocal(2, &two, 6, 64).unwrap_err(),
-            Refusal::FractionBits,
-            4,
-            "refusal 4: the fraction bits are fewer than 2k + 3 or more than 63",
-        ),
+        (reciprocal(2, &two, 0, 1).unwrap_err(), Refusal::FractionBits, 4, "refusal 4: the fraction bits are fewer than 1 or more than 63"),
         (reciprocal(2, &two, 7, 127).unwrap_err(), Refusal::NotNormalised, 5, "refusal 5: the operand is not from 2^n to 2^(n+1) - 1"),
         (check(2, &two).unwrap_err(), Refusal::WrongWord, 6, "refusal 6 at node 3: the word is not the construction's"),
     ];

@@ -125,14 +125,15 @@ static void calls_at(uint32_t k, size_t at)
     for (size_t each = 0; each < COUNT(js); each++)
         nodes(k, js[each]);
 
-    uint32_t least = YILDEGGA_LEAST_FRACTION_BITS(some_k);
-    uint32_t ns[] = {0, least - 1, least, least + 1, 63, 64, MOST_32};
-    for (size_t each = 0; each < COUNT(ns); each++) {
-        uint64_t one = UINT64_C(1) << (ns[each] < 64 ? ns[each] : 63); /* where n is at most 63, 2^n */
-        uint64_t piece = one >> some_k; /* the pieces begin at one + piece * j */
-        uint64_t xs[] = {0, one - 1, one, one + 1, one + (one - 1), 2 * one, MOST_64, one + piece * near, one + piece * near - 1};
+    /* each n below 2k + 5, so that operands are padded, neither padded nor cut, and cut; then those about the upper limit */
+    uint32_t below = 2 * some_k + 5, above[] = {63, 64, MOST_32};
+    for (uint32_t each = 0; each < below + COUNT(above); each++) {
+        uint32_t n = each < below ? each : above[each - below];
+        uint64_t one = UINT64_C(1) << (n < 64 ? n : 63); /* where n is at most 63, 2^n */
+        uint64_t at_near = one + (n < some_k ? near >> (some_k - n) : (one >> some_k) * near); /* the last operand up to node `near` */
+        uint64_t xs[] = {0, one - 1, one, one + 1, one + (one - 1), 2 * one, MOST_64, at_near, at_near - 1};
         for (size_t which = 0; which < COUNT(xs); which++)
-            reciprocals(k, ns[each], xs[which]);
+            reciprocals(k, n, xs[which]);
     }
     printf("build ");
     done(build(k));
@@ -208,10 +209,11 @@ static void constants(void)
     CONSTANT(LEAST_PRECISION);
     CONSTANT(GREATEST_PRECISION);
     CONSTANT(LONGEST_IMAGE);
+    CONSTANT(LEAST_FRACTION_BITS);
     CONSTANT(MOST_FRACTION_BITS);
     CONSTANT(TABLE_UNITS_IN_ULP);
     for (uint32_t k = 1; k <= 12; k++)
-        printf("limits %" PRIu32 " %u %u %u\n", k, YILDEGGA_LAST_NODE(k), YILDEGGA_WORD_BITS(k), YILDEGGA_LEAST_FRACTION_BITS(k));
+        printf("limits %" PRIu32 " %u %u\n", k, YILDEGGA_LAST_NODE(k), YILDEGGA_WORD_BITS(k));
 }
 
 int main(int argc, char **argv)

@@ -1,5 +1,5 @@
 /* Uses every name of the header, in C and in C++, with all that a compiler warns of counting as an error. It ends with status 0
-   where the calls serve at precision 2 as document 01 has it. */
+   where the calls serve at precision 2 as document 01 has it, and an operand of one fraction bit too. */
 #include <yildegga.h>
 
 static uint8_t image[YILDEGGA_IMAGE_LENGTH(2)];
@@ -28,11 +28,10 @@ static int place_has_a_meaning(uint32_t number)
 int main(void)
 {
     const uint32_t k = 2;
-    const uint32_t n = YILDEGGA_LEAST_FRACTION_BITS(k);
     for (size_t at = 0; at < sizeof lengths / sizeof lengths[0]; at++)
         if (lengths[at] != right_lengths[at])
             return 1;
-    if (yildegga_image_length(k) != sizeof image || YILDEGGA_LEAST_PRECISION > k || YILDEGGA_MOST_FRACTION_BITS < n)
+    if (yildegga_image_length(k) != sizeof image || YILDEGGA_LEAST_PRECISION > k)
         return 2;
 
     yildegga_done done = yildegga_build(k, image, sizeof image);
@@ -57,9 +56,15 @@ int main(void)
     if (part.offset != 0 || part.count != 2 || part.offset * 8 + YILDEGGA_WORD_BITS(k) != 6)
         return 7;
 
-    yildegga_reciprocal_given given = yildegga_reciprocal(k, image, sizeof image, n, 135);
+    yildegga_reciprocal_given given = yildegga_reciprocal(k, image, sizeof image, 7, 135);
     yildegga_ulps ulps = given.value;
     if (ulps.count * YILDEGGA_TABLE_UNITS_IN_ULP != 120)
         return 8;
+    given = yildegga_reciprocal(k, image, sizeof image, YILDEGGA_LEAST_FRACTION_BITS, 3); /* node 2, 86 table units */
+    if (given.value.count != 21)
+        return 9;
+    given = yildegga_reciprocal(k, image, sizeof image, YILDEGGA_MOST_FRACTION_BITS, UINT64_MAX);
+    if (given.value.count != 16)
+        return 10;
     return 0;
 }

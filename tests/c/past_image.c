@@ -21,11 +21,12 @@ int main(void)
         served += yildegga_check(k, image, length).number == YILDEGGA_SERVED;
         calls += 2;
         for (uint32_t j = 0; j < YILDEGGA_LAST_NODE(k); j++) {
-            uint64_t x = (UINT64_C(1) << 63) + ((uint64_t)j << (63 - k));
+            uint64_t x = YILDEGGA_LAST_NODE(k) + j; /* node j itself, with k fraction bits; with 63 it is x << (63 - k) */
             served += yildegga_node(k, image, length, j).number == YILDEGGA_SERVED;
             served += yildegga_word_bytes(k, image, length, j).count > 0;
-            served += yildegga_reciprocal(k, image, length, 63, x).number == YILDEGGA_SERVED;
-            calls += 3;
+            served += yildegga_reciprocal(k, image, length, k, x).number == YILDEGGA_SERVED;
+            served += yildegga_reciprocal(k, image, length, 63, x << (63 - k)).number == YILDEGGA_SERVED;
+            calls += 4;
         }
     }
     printf("%lu of %lu\n", served, calls);
