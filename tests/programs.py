@@ -77,7 +77,8 @@ def printed_output():
 def random_operands(rng, k):
     """The numbers of a line of operands: often near a node, often with fraction bits that can be served, as many as the table looks at, fewer
     or more."""
-    n = min(rng.choice([0, 1, k, k + 1, 2 * k + 2, 2 * k + 3, 2 * k + 3, 2 * k + 4, 31, 32, 52, 62, 63, 63, 64, rng.randrange(70)]), 2 ** 32 - 1)
+    n = rng.choice([0, 1, k, k + 1, 2 * k + 2, 2 * k + 3, 2 * k + 3, 2 * k + 4, 31, 32, 52, 62, 63, 63, 64, rng.randrange(70)])
+    n = min(n, 2 ** 32 - 1)
     least = 2 ** min(n, 64)
     nodes = 2 ** min(k, n, 12)  # that have an operand, but for the last one
     piece = least // nodes

@@ -23,9 +23,14 @@ fn behind(k: u32, n: u32) -> u32 {
     n.saturating_sub(2 * k + 3)
 }
 
+/// A number of fraction bits above n.
+fn drawn_length(random: &mut Random, n: u32) -> u32 {
+    n + 1 + random.below(u64::from(MOST_FRACTION_BITS - n)) as u32
+}
+
 /// A short operand with a drawn number of bits to its right that change nothing: zeros up to 2k + 3 fraction bits, and drawn ones behind them.
 pub fn longer(random: &mut Random, k: u32, n: u32, x: u64) -> (u32, u64) {
-    let length = n + 1 + random.below(u64::from(MOST_FRACTION_BITS - n)) as u32;
+    let length = drawn_length(random, n);
     (length, x * (1 << (length - n)) + random.below(1 << behind(k, length)))
 }
 
@@ -53,8 +58,8 @@ pub fn to_the_right(guards: Guards, up_to: u32) -> Counted {
             if alone.number != 0 {
                 return Err(format!("reciprocal, k {k}, its image, n {n}, x {x}: the library gives {alone:?}, expected is number 0"));
             }
-            let drawn = n + 1 + random.below(u64::from(MOST_FRACTION_BITS - n)) as u32;
-            let lengths = if n <= 9 { (n + 1..=MOST_FRACTION_BITS).collect() } else { vec![2 * k + 3, MOST_FRACTION_BITS, drawn] };
+            let some = [2 * k + 3, MOST_FRACTION_BITS, drawn_length(&mut random, n)];
+            let lengths = if n <= 9 { (n + 1..=MOST_FRACTION_BITS).collect() } else { some.to_vec() };
             for length in lengths {
                 let rights = 1u64 << behind(k, length);
                 let others = [0, rights - 1, random.below(rights)];
