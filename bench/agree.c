@@ -83,6 +83,8 @@ static void damaged(uint32_t k, bool checked)
     for (uint32_t near = j == 0 ? 0 : j - 1; near <= j + 1 && near < count; near++) {
         node(k, images[k], lengths[k], near);
         reciprocal(k, images[k], lengths[k], 2 * k + 3, (uint64_t)(count + near) << (k + 3) | drawn() >> (61 - k));
+        uint32_t more = (uint32_t)(drawn() % (k + 3)); // a short operand: at the node, or with up to k + 2 bits of f
+        reciprocal(k, images[k], lengths[k], k + more, (uint64_t)(count + near) << more | drawn() >> 1 >> (63 - more));
     }
     images[k][at] ^= bit;
 }
@@ -110,6 +112,17 @@ int main(void)
             agree(r == trusting_packed(k, image, n, x), "trusting_packed");
             agree(r == trusting_flat(k, tables[k], n, x), "trusting_flat");
             agree(r + 1 - trusting_divided(k, n, x) <= 2, "trusting_divided, within an ulp");
+        }
+        for (int s = 0; s < 200000; s++) {
+            uint32_t n = 1 + (uint32_t)(drawn() % (2 * k + 2)); // short operands
+            reciprocal(k, image, length, n, drawn_operand(n));
+        }
+        for (uint32_t n = 0; n <= 70; n++) {
+            uint64_t one = (uint64_t)1 << n % 64;
+            for (uint64_t x = one - 1; x != one + 2; x++) {
+                reciprocal(k, image, length, n, x);
+                reciprocal(k, image, length, n, x + one);
+            }
         }
         for (int s = 0; s < 20000; s++)
             damaged(k, s < 200);

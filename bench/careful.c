@@ -67,8 +67,9 @@ answer CALL(node)(uint32_t k, const uint8_t *image, size_t length, uint32_t j)
     return (answer){0, 0, c};
 }
 
-// An operand is normalised exactly where its node number is below 2^k. Past the last word bits_from gives zeros, and the leading one
-// alone is the value of node 2^k: its piece needs no case of its own.
+// The operand's fraction is shifted to the top, and its leading one out: the first k bits are the node number, the k + 3 after them are f,
+// and a short operand has zeros there. Past the last word bits_from gives zeros, and the leading one alone is the value of node 2^k: its
+// piece needs no case of its own.
 answer CALL(reciprocal)(uint32_t k, const uint8_t *image, size_t length, uint32_t n, uint64_t x)
 {
     if (11 < k - 1)
@@ -79,9 +80,9 @@ answer CALL(reciprocal)(uint32_t k, const uint8_t *image, size_t length, uint32_
         return refused(2);
     if (62 < n - 1)
         return refused(4);
+    uint64_t top = x << (64 - n), j = top >> (64 - k), i = count + j, f = top << k >> (61 - k);
     if (x >> n != 1)
         return refused(5);
-    uint64_t top = x << (63 - n), i = top >> (63 - k), j = i - count, f = top >> (60 - 2 * k) & (8 * count - 1);
     uint64_t both = bits_from(image, bytes, j * width) >> (64 - 2 * width);
     uint64_t lower = decoded(both >> width, lead), upper = lead + (both & (lead - 1)), numerator = 2 * count * lead;
     if (!right(lower, i, numerator))

@@ -1,4 +1,4 @@
-// Calls each contestant a number of times, for callgrind to count their instructions: count CALL K CALLS.
+// Calls each contestant a number of times, for callgrind to count their instructions: count CALL K N CALLS, on operands of N fraction bits.
 #include "calls.h"
 #include "given.h"
 #include <stdlib.h>
@@ -17,10 +17,10 @@ static volatile uint64_t sink;
 
 int main(int argc, char **argv)
 {
-    if (argc != 4)
+    if (argc != 5)
         return 2;
-    uint32_t k = (uint32_t)atoi(argv[2]);
-    int calls = atoi(argv[3]);
+    uint32_t k = (uint32_t)atoi(argv[2]), n = (uint32_t)atoi(argv[3]);
+    int calls = atoi(argv[4]);
     if (strcmp(argv[1], "build") == 0) {
         for (int s = 0; s < calls; s++)
             EACH(build, k, built, LONGEST);
@@ -30,16 +30,16 @@ int main(int argc, char **argv)
     size_t length = (((size_t)2 * k + 2) << k) / 8;
     careful_O2_build(k, images[k], length);
     for (int s = 0; s < calls; s++) {
-        uint64_t x = drawn_operand(63);
+        uint64_t x = drawn_operand(n);
         if (strcmp(argv[1], "check") == 0) {
             EACH(check, k, images[k], length);
         } else if (strcmp(argv[1], "node") == 0) {
-            uint32_t j = (uint32_t)(x >> (63 - k)) - (1u << k);
+            uint32_t j = (uint32_t)(x >> (n - k)) - (1u << k);
             EACH(node, k, images[k], length, j);
             sink = yildegga_bound_node(k, images[k], length, j).value;
         } else {
-            EACH(reciprocal, k, images[k], length, 63, x);
-            sink = yildegga_bound_reciprocal(k, images[k], length, 63, x).value;
+            EACH(reciprocal, k, images[k], length, n, x);
+            sink = yildegga_bound_reciprocal(k, images[k], length, n, x).value;
         }
     }
     return 0;

@@ -14,7 +14,7 @@
 enum { OPERANDS = 1 << 14, ROUNDS = 300, MOST = 9 };
 
 // What the calls of a case are given, and where their answers go, so that none can be left out.
-static uint32_t k, n;
+static uint32_t k, n, ns[OPERANDS];
 static uint64_t xs[OPERANDS];
 static uint32_t js[OPERANDS];
 static float ys[OPERANDS];
@@ -39,6 +39,15 @@ static void in_sequence(void)
     uint64_t from = drawn(), leading = (uint64_t)1 << n;
     for (int s = 0; s < OPERANDS; s++)
         give(s, leading | ((from + (uint64_t)s) & (leading - 1)));
+}
+
+// Operands of any length: each has fraction bits of its own, as many as are drawn.
+static void of_any_length(void)
+{
+    for (int s = 0; s < OPERANDS; s++) {
+        ns[s] = 1 + (uint32_t)(drawn() % 63);
+        xs[s] = drawn_operand(ns[s]);
+    }
 }
 
 // A pass makes its calls and gives how many they were. The calls of `name` stand alone; each of `name_in_turn` waits for the answer
@@ -80,6 +89,7 @@ typedef long pass(void);
         return OPERANDS;                                      \
     }
 #define ANSWERED(name, call) PASSES(name, answer, a.value ^ a.number, call(k, images[k], lengths[k], n, x))
+#define MIXED(name, call) PASSES(name##_mixed, answer, a.value ^ a.number, call(k, images[k], lengths[k], ns[s], x))
 #define TRUSTED(name, call) PASSES(name, uint64_t, a, call)
 
 ANSWERED(library, yildegga_reciprocal)
@@ -89,6 +99,12 @@ ANSWERED(careful_3, careful_O3_reciprocal)
 ANSWERED(bytewise_2, bytewise_O2_reciprocal)
 ANSWERED(bytewise_3, bytewise_O3_reciprocal)
 ANSWERED(apart, apart_reciprocal)
+MIXED(library, yildegga_reciprocal)
+MIXED(bound, yildegga_bound_reciprocal)
+MIXED(careful_2, careful_O2_reciprocal)
+MIXED(careful_3, careful_O3_reciprocal)
+MIXED(bytewise_2, bytewise_O2_reciprocal)
+MIXED(bytewise_3, bytewise_O3_reciprocal)
 NODES(library_node, yildegga_node)
 NODES(bound_node, yildegga_bound_node)
 NODES(careful_2_node, careful_O2_node)
@@ -233,6 +249,20 @@ static void reciprocals(uint32_t precision, const char *order, uint32_t fraction
     five_row("  in turn", 1);
 }
 
+static void mixed_reciprocals(uint32_t precision)
+{
+    char name[64];
+    k = precision;
+    snprintf(name, sizeof name, "reciprocal, k = %u, n and X random", k);
+    CONTEST(of_any_length, library_mixed, careful_2_mixed, careful_3_mixed, bytewise_2_mixed, bytewise_3_mixed);
+    five_row(name, 1);
+    CONTEST(of_any_length, bound_mixed, careful_2_mixed, careful_3_mixed, bytewise_2_mixed, bytewise_3_mixed);
+    five_row("  through the bound table", 1);
+    CONTEST(of_any_length, library_mixed_in_turn, careful_2_mixed_in_turn, careful_3_mixed_in_turn, bytewise_2_mixed_in_turn,
+            bytewise_3_mixed_in_turn);
+    five_row("  in turn", 1);
+}
+
 static void same_algorithm(void)
 {
     printf("\nThe same algorithm with the same checks in C\n");
@@ -247,6 +277,8 @@ static void same_algorithm(void)
         reciprocals(precision, "random", 63, at_random);
         reciprocals(precision, "sequential", 2 * precision + 3, in_sequence);
     }
+    reciprocals(12, "n = 23, random", 23, at_random);
+    mixed_reciprocals(12);
     n = 63;
     CONTEST(at_random, library_node, careful_2_node, careful_3_node, bytewise_2_node, bytewise_3_node);
     five_row("node, k = 12, random", 1);

@@ -51,16 +51,17 @@ kept_table kept_bind(uint32_t k, const uint8_t *image, size_t length)
     return (kept_table){image, bytes, width, count, lead, 2 * count * lead, k, length < bytes ? 2 : 0};
 }
 
-// The reciprocal where refusals 1 and 2 do not apply. It is inlined, so that what is constant in the caller is so here.
+// The reciprocal where refusals 1 and 2 do not apply. It is inlined, so that what is constant in the caller is so here. The node number
+// comes from k bits, so that it is one whatever x is, and the words may be read before x is judged.
 static inline __attribute__((always_inline)) answer within(const uint8_t *image, size_t bytes, uint32_t k, uint64_t width, uint64_t count,
                                                            uint64_t lead, uint64_t numerator, uint32_t n, uint64_t x)
 {
     if (62 < n - 1)
         return (answer){4, 0, 0};
+    uint64_t top = x << (64 - n), j = top >> (64 - k), i = count + j, f = top << k >> (61 - k);
+    uint64_t both = bits_from(image, bytes, j * width) >> (64 - 2 * width);
     if (x >> n != 1)
         return (answer){5, 0, 0};
-    uint64_t top = x << (63 - n), i = top >> (63 - k), j = i - count, f = top >> (60 - 2 * k) & (8 * count - 1);
-    uint64_t both = bits_from(image, bytes, j * width) >> (64 - 2 * width);
     uint64_t lower = decoded(both >> width, lead), upper = lead + (both & (lead - 1));
     if (!right(lower, i, numerator))
         return (answer){6, j, 0};

@@ -1,4 +1,5 @@
-// What a user would take instead of a checked call: nothing is judged, and a caller's mistake reads where it may not.
+// What a user would take instead of a checked call: nothing is judged, and a caller's mistake reads where it may not. An operand has
+// 2k + 3 fraction bits or more; a shorter one is for the caller to pad.
 #ifndef TRUSTING_H
 #define TRUSTING_H
 #include <stdint.h>

@@ -1,5 +1,6 @@
 """Tests of the programs: what they print is compared with what reference.py writes."""
 import functools
+import math
 import pathlib
 import random
 import re
@@ -74,11 +75,14 @@ def printed_output():
 
 
 def random_operands(rng, k):
-    """The numbers of a line of operands: often near a node, often with fraction bits that can be served."""
-    n = min(rng.choice([2 * k + 2, 2 * k + 3, 2 * k + 3, 2 * k + 4, 31, 32, 52, 62, 63, 63, 64, rng.randrange(70)]), 2 ** 32 - 1)
+    """The numbers of a line of operands: often near a node, often with fraction bits that can be served, as many as the table looks at, fewer
+    or more."""
+    n = rng.choice([0, 1, k, k + 1, 2 * k + 2, 2 * k + 3, 2 * k + 3, 2 * k + 4, 31, 32, 52, 62, 63, 63, 64, rng.randrange(70)])
+    n = min(n, 2 ** 32 - 1)
     least = 2 ** min(n, 64)
-    piece = least // 2 ** min(k, 12)
-    node = least + piece * rng.randint(0, 2 ** min(k, 12))
+    nodes = 2 ** min(k, n, 12)  # that have an operand, but for the last one
+    piece = least // nodes
+    node = least + piece * rng.randint(0, nodes)
     x = rng.choice([node - 1, node, node + 1, least + rng.randrange(least), least + rng.randrange(least), rng.getrandbits(64)])
     step = rng.choice([1, piece, piece // 2 + 1, rng.getrandbits(64)])
     return f"{k} {n} {x % 2 ** 64} {rng.randint(0, 6)} {step % 2 ** 64}"
@@ -134,25 +138,34 @@ def reciprocals(output):
 
 
 def less_than_an_ulp():
-    """Each reciprocal that the program gives, and there are many, is less than an ulp from the exact one."""
+    """Each reciprocal that the program gives, and there are many, also of short operands, is less than an ulp from the exact one."""
     given = [(k, n, x, value) for _, k, n, x, number, _, value in reciprocals(printed()) if number == 0]
     for k, n, x, value in given:
         if abs(Fraction(value, 2 ** (2 * k + 1)) - Fraction(2 ** n, x)) >= Fraction(1, 2 ** (2 * k + 1)):
             return f"precision {k}, {x} with {n} fraction bits: {value}"
-    return None if len(given) > 5000 else f"only {len(given)} are given"
+    short = sum(n < 2 * k + 3 for k, n, _, _ in given)
+    return None if len(given) > 5000 and short > 3000 else f"only {len(given)} are given, and {short} of short operands"
 
 
 def bits_to_the_right():
-    """Operands whose first 2k + 3 fraction bits are the same get the same answer from the same bytes, refusals included."""
+    """Operands whose first 2k + 3 fraction bits are the same, zeros standing for those that a short one does not have, get the same answer
+    from the same bytes, refusals included."""
     found = {}
     for changed, k, n, x, *answer in reciprocals(printed()):
-        if reference.in_range(k) and 2 * k + 3 <= n <= 63:
-            found.setdefault((changed, k, x >> n - 2 * k - 3), {}).setdefault(tuple(answer), set()).add(n)
-    for (_, k, bits), answers in found.items():
+        if reference.in_range(k) and reference.LEAST_BITS <= n <= reference.MOST_BITS:
+            begins = math.floor(Fraction(x, 2 ** n) * 2 ** (2 * k + 3))
+            found.setdefault((changed, k, begins), {}).setdefault(tuple(answer), set()).add(n)
+    for (_, k, begins), answers in found.items():
         if len(answers) > 1:
-            return f"precision {k}, operands that begin with the bits {bits:b}: {answers}"
-    several = {answer[0] for answers in found.values() for answer, lengths in answers.items() if len(lengths) > 1}
-    return None if several == {0, 5, 6} else f"operands of several lengths get only the numbers {several}"
+            return f"precision {k}, operands that begin with the bits {begins:b}: {answers}"
+    lengths = [(answer[0], 2 * k + 3, bits) for (_, k, _), answers in found.items() for answer, bits in answers.items()]
+    several = {
+        "two that are cut": {number for number, cut, bits in lengths if len([n for n in bits if n > cut]) > 1},
+        "a short one and one that is cut": {number for number, cut, bits in lengths if min(bits) < cut < max(bits)},
+        "two short ones": {number for number, cut, bits in lengths if len([n for n in bits if n < cut]) > 1},
+    }
+    bad = [f"{which}: {numbers}" for which, numbers in several.items() if numbers != {0, 5, 6}]
+    return f"operands of several lengths get only the numbers of {bad}" if bad else None
 
 
 def bound_table():
@@ -206,7 +219,7 @@ def document_cases(output):
     answers are from. It must be printed as it stands, with no line between and none after its last case."""
     document = (ROOT / "tests" / "document01.txt").read_bytes()
     cases = re.findall(rb"^#.*\n(?!#)", document, re.M)
-    if len(cases) != 31:
+    if len(cases) != 35:
         return f"there are {len(cases)} cases"
     below = output.split(script.MARK.encode(), 1)[1]
     return same(below[:len(document) + 1], document + b"#")
@@ -378,7 +391,7 @@ def tests():
     for seed in range(12):
         yield f"cases: 400 random lines, seed {seed}", lambda seed=seed: random_scripts(seed)
     yield "cases: each reciprocal given is less than an ulp off", less_than_an_ulp
-    yield "cases: bits to the right of an operand change no answer", bits_to_the_right
+    yield "cases: operands with the same first 2k + 3 fraction bits get the same answer", bits_to_the_right
     yield "cases: a bound table gives what the plain calls give", bound_table
     yield "Table 1 of document 002: the reference", table1_reference
     yield "Table 1 of document 002: the program", table1_program

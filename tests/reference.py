@@ -1,7 +1,7 @@
 #!/usr/bin/env python3
 """Writes what the programs must print. It shares no code with the library and works by another method:
-fractions for the nodes and for the points on the lines between them, strings of '0' and '1' for the packing and the cutting of
-operands, the answers from the words of document 01.
+fractions for the nodes and for the points on the lines between them, strings of '0' and '1' for the packing and the leading bits of
+operands, the answers from the words of documents 01 and 02.
 
 usage: reference.py cases <SCRIPT   what the program `cases` prints on that script (crates/cases/stdin)
        reference.py table <INPUT    what the program `print_table` prints on that standard input
@@ -13,7 +13,7 @@ import sys
 from fractions import Fraction
 
 LEAST, GREATEST = 1, 12
-MOST_BITS = 63  # of an operand's fraction
+LEAST_BITS, MOST_BITS = 1, 63  # of an operand's fraction
 LENGTHS = [1, 3, 8, 20, 48, 112, 256, 576, 1280, 2816, 6144, 13312]  # as document 01 lists them
 
 
@@ -55,20 +55,21 @@ def word_is_right(k, buffer, j):
     return bits_of(buffer)[j * width(k):(j + 1) * width(k)] == stored(k, j)
 
 
-def cut(k, x):
-    """The operand's leading bits: the k + 1 of i, which begin with its leading one, and the k + 3 of f after them."""
+def leading(k, x):
+    """The operand's leading bits: the k + 1 of i, which begin with its leading one, and the k + 3 of f after them. Zeros stand for those
+    that it does not have."""
     bits = format(x, "b").ljust(2 * k + 4, "0")
     return bits[:k + 1], bits[k + 1:2 * k + 4]
 
 
 def piece(k, x):
     """j: the operand lies between nodes j and j + 1."""
-    return int(cut(k, x)[0], 2) - 2 ** k
+    return int(leading(k, x)[0], 2) - 2 ** k
 
 
 def point(k, x):
     """P / 2^(k+3): the point on the straight line from node j to node j + 1 that is f / 2^(k+3) of the way along, in table units."""
-    way = Fraction(int(cut(k, x)[1], 2), 2 ** (k + 3))
+    way = Fraction(int(leading(k, x)[1], 2), 2 ** (k + 3))
     start, end = node(k, piece(k, x)), node(k, piece(k, x) + 1)
     return start * (1 - way) + end * way
 
@@ -121,7 +122,7 @@ def call_reciprocal(k, buffer, n, x):
     number = first_two(k, buffer)
     if number:
         return (number, 0, 0)
-    if n < 1 or n > MOST_BITS:
+    if not LEAST_BITS <= n <= MOST_BITS:
         return (4, 0, 0)
     if not 2 ** n <= x <= 2 ** (n + 1) - 1:
         return (5, 0, 0)
@@ -221,7 +222,7 @@ class Cases:
         def answer(k):
             words = 2 ** k if in_range(k) else 0
             length = Fraction(words * width(k), 8)
-            return row(int(in_range(k)), width(k), words, length, LEAST, GREATEST, max(LENGTHS), MOST_BITS)
+            return row(int(in_range(k)), width(k), words, length, LEAST, GREATEST, max(LENGTHS), LEAST_BITS, MOST_BITS)
         return self.each(first, last, answer)
 
     def check(self, first, last=0):

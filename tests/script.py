@@ -82,66 +82,101 @@ def table2():
 # ---- operands that are served
 
 def every_operand():
-    yield "# Every operand with 2k + 3 fraction bits, and one on each side"
+    yield "# Every operand with 1 to 2k + 3 fraction bits, and one on each side"
     for k in (1, 2, 3, 4):
-        n = 2 * k + 3
         yield from image(k)
-        yield invert(k, n, 2 ** n - 1, 2 ** n + 2, 1)
+        for n in range(1, 2 * k + 4):
+            yield invert(k, n, 2 ** n - 1, 2 ** n + 2, 1)
 
 
 def spread():
     yield ("# A spread of operands at each precision: nodes and their neighbours, so both ends of the first, the middle and the last piece; "
            "operands")
-    yield "# far apart; the same bits with others to their right; n at its limits; a buffer one byte short"
+    yield "# far apart; the same bits with others to their right; short operands; n beyond its limits; a buffer one byte short"
     for k in PRECISIONS:
         yield f"# A spread of operands: precision {k}"
         yield from image(k, 90)
-        least = 2 * k + 3
-        for n in (least, least + 1, 31, 32, 52, 62, 63):
+        cut = 2 * k + 3  # the fraction bits that the table looks at
+        for n in (cut - 1, cut, cut + 1, 31, 32, 52, 63):
             # At most 17 nodes, evenly spread; where those are not all, the second one, the one after the middle, the last but one.
             piece, parts = 2 ** (n - k), min(k, 4)
             yield around(k, n, 2 ** n, 2 ** parts + 1, 2 ** (n - parts))
             if k > parts:
                 yield around(k, n, 2 ** n + piece, 2, 2 ** (n - 1))
                 yield around(k, n, 2 ** (n + 1) - piece)
-        for n in (least, 63):
+        for n in (cut - 1, cut, 63):
             yield from both(invert(k, n, 2 ** n + 2 ** n // 97, 48, (2 ** n // 48 - 2 ** n // 1500) | 1))
-        x = 2 ** least + 2 ** least * (3 * k + 2) // 41  # another piece at each precision
-        yield invert(k, least, x)
-        yield invert(k, least + 1, 2 * x, 2, 1)
-        yield invert(k, least + 3, 8 * x, 8, 1)
-        yield invert(k, 63, x * 2 ** (63 - least), 2, 2 ** (63 - least) - 1)
-        yield invert(k, least - 1, 2 ** (least - 1))
+        x = 2 ** cut + 2 ** cut * (3 * k + 2) // 41  # another piece at each precision
+        yield invert(k, cut, x)
+        yield invert(k, cut + 1, 2 * x, 2, 1)
+        yield invert(k, cut + 3, 8 * x, 8, 1)
+        yield invert(k, 63, x * 2 ** (63 - cut), 2, 2 ** (63 - cut) - 1)
+        yield from short(k)
+        yield invert(k, 0, 1)
         yield invert(k, 64, 2 ** 63)
         yield from both(node(2 ** k - 1, 2 ** k + 1, k))
         yield f"length {size(k) - 1}"
-        yield from both(invert(k, least, 2 ** least))
+        for n in (1, cut):
+            yield from both(invert(k, n, 2 ** n))
         yield from both(node(0, 0, k))
 
 
-def longer(x):
-    """Bits to the right of x, which has 7 fraction bits: each choice of up to three, and of more all zeros and all ones."""
+def short(k):
+    """Short operands: both ends and both sides where fewer nodes than all have an operand, where each has one, and where the table looks at
+    one bit more than there is; one operand with zeros to its right, and with ones behind the first 2k + 3 fraction bits."""
+    for n in sorted({1, k - 1, k, 2 * k + 2} - {0}):
+        yield around(k, n, 2 ** n, 2, 2 ** n)
+    n, cut = k + 1, 2 * k + 3
+    x = 2 ** n + (2 ** n * (5 * k + 3) // 67 | 1)  # its last bit is 1; another piece at each precision
+    yield from both(invert(k, n, x))
+    yield invert(k, n + 1, 2 * x, 2, 1)
+    yield invert(k, cut, x * 2 ** (cut - n))
+    yield invert(k, cut + 2, x * 2 ** (cut + 2 - n), 4, 1)
+    yield invert(k, 63, x * 2 ** (63 - n), 2, 2 ** (63 - cut) - 1)
+
+
+def single_precision():
+    yield "# The significand of a single-precision number, 23 fraction bits, at k = 12"
+    yield from image(12)
+    yield from both(invert(12, 23, 2 ** 23 - 1, 4, 1))
+    yield from both(invert(12, 23, 2 ** 24 - 2, 4, 1))
+    yield from both(invert(12, 23, 3 * 2 ** 22))  # 1.5
+    yield from both(invert(12, 23, 2 ** 23 + 1, 32, 2 ** 23 // 32 - 12345))
+    yield "# The same operands with zeros to their right, 27 and 63 fraction bits"
+    for n in (27, 63):
+        yield invert(12, n, (2 ** 23 - 1) * 2 ** (n - 23), 4, 2 ** (n - 23))
+        yield invert(12, n, (2 ** 24 - 2) * 2 ** (n - 23), 2, 2 ** (n - 23))
+        yield invert(12, n, 3 * 2 ** (n - 1))
+        yield invert(12, n, (2 ** 23 + 1) * 2 ** (n - 23), 32, (2 ** 23 // 32 - 12345) * 2 ** (n - 23))
+
+
+def longer(n, x):
+    """Bits to the right of x, which has n fraction bits, at k = 2: each choice of up to three; of more, all zeros, and ones behind the first
+    7 fraction bits."""
     for m in (0, 1, 2, 3):
-        yield invert(2, 7 + m, x * 2 ** m, 2 ** m, 1)
-    for m in (24, 25, 45, 55, 56):
-        if (x + 1) * 2 ** m - 1 <= TOP:
-            yield invert(2, 7 + m, x * 2 ** m, 2, 2 ** m - 1)
+        yield invert(2, n + m, x * 2 ** m, 2 ** m, 1)
+    for bits in (31, 32, 52, 62, 63) if n == 7 else (31, 63):
+        if (x + 1) * 2 ** (bits - n) - 1 <= TOP:
+            yield invert(2, bits, x * 2 ** (bits - n), 2, 2 ** (bits - 7) - 1)
 
 
 def bits_to_the_right():
-    yield "# Bits to the right of 135, of 127 and 256, which are out of range, and of 223, whose words are then damaged"
+    yield "# Bits to the right of 135, of 127 and 256, which are out of range, and of 223, whose words are then damaged; then of short operands:"
+    yield "# of 64, which is another operand where a one follows it, of 5, of 3 and 8, which are out of range, and of 27, which lies beside 223"
     yield "hex 02 75 8A"
-    for x in (135, 127, 256, 223):
-        yield from longer(x)
+    for n, x in ((7, 135), (7, 127), (7, 256), (7, 223), (6, 64), (2, 5), (2, 3), (2, 8), (4, 27)):
+        yield from longer(n, x)
     for damaged in ("02 75 8B", "02 75 CA"):
         yield f"hex {damaged}"
-        yield from longer(223)
+        yield from longer(7, 223)
+        yield from longer(4, 27)
 
 
 # ---- damaged images
 
 def wrong_words():
-    yield "# Damaged images: every choice of wrong words at k = 2, at the first, a middle and the last operand of each piece"
+    yield "# Damaged images: every choice of wrong words at k = 2, at the first, a middle and the last operand of each piece, and at each short one"
+    yield "# that stands at a node"
     changes = (0b000001, 0b100000, 0b000100, 0b111111)  # of the four words
     for choice in range(16):
         words = [int(reference.stored(2, j), 2) ^ (changes[j] if choice >> j & 1 else 0) for j in range(4)]
@@ -149,6 +184,7 @@ def wrong_words():
         yield f"hex {data.hex(' ').upper()}"
         yield from both(invert(2, 7, 128, 8, 16))
         yield invert(2, 7, 159, 4, 32)
+        yield from both(invert(2, 2, 4, 4, 1))
         yield from both(node(0, 4, 2))
 
 
@@ -164,7 +200,8 @@ def each_bit():
 
 
 def wrong_neighbours():
-    yield "# Damage in a word in the middle, then also in the next one, then only there, then also in the last word, then also in the first"
+    yield "# Damage in a word in the middle, then also in the next one, then only there, then also in the last word, then also in the first;"
+    yield "# short operands stand at a node, and both words are read for them too"
     for k in range(3, 13):
         n = 2 * k + 3 + k % 2
         piece = 2 ** (n - k)
@@ -180,16 +217,21 @@ def wrong_neighbours():
         yield flip_last(k, middle)
         yield invert(k, n, at(middle - 2), 8, half)
         yield invert(k, n, at(middle - 1) - 1, 4, piece)
+        yield invert(k, 1, 2, 2, 1)
         yield flip_first(k, middle + 1)
         yield invert(k, n, at(middle - 2), 8, half)
+        yield invert(k, k, 2 ** k + middle - 2, 5, 1)
         yield flip_last(k, middle)
         yield invert(k, n, at(middle - 1), 8, half)
+        yield invert(k, 1, 2, 2, 1)
         yield flip_last(k, last)
         yield invert(k, n, at(last - 2), 6, half)
         yield invert(k, n, at(last - 1) - 1, 3, piece)
+        yield invert(k, k, 2 ** k + last - 2, 3, 1)
         yield flip_first(k, 0)
         yield invert(k, n, at(0), 4, half)
         yield invert(k, n, at(1) - 1, 2, piece)
+        yield invert(k, 1, 2, 2, 1)
 
 
 def last_piece():
@@ -201,6 +243,7 @@ def last_piece():
             yield from image(k, byte)
             yield f"length {size(k) + (16 if k % 2 else 1)}"
             yield invert(k, n, 2 ** (n + 1) - piece, 2, piece - 1)
+            yield invert(k, k, 2 ** (k + 1) - 1)
 
 
 # ---- limits
@@ -218,8 +261,9 @@ def limits():
     yield "hex 02 75 8A"
     for n in (0, 1, 5, 6, 7, 8, 62, 63, 64, 65, 71, 99, 128, 255, 256, 263, 319, 65543, 2147483655, 4294967295):
         yield invert(2, n, 2 ** min(n, 63))
+    yield around(2, 0, 1)
     yield "# The limits of a reciprocal: the operand"
-    for n in (7, 8, 30, 31, 32, 62, 63):
+    for n in (1, 2, 6, 7, 8, 30, 31, 32, 62, 63):
         yield around(2, n, 2 ** n, 2, 2 ** n)
         yield invert(2, n, TOP, 4, 1)
 
@@ -236,16 +280,17 @@ def pairs(precisions, lengths):
 def order():
     yield "# The refusals of a reciprocal in their order: a short buffer"
     yield "hex 02 75"
-    yield from pairs((0, 2, 13), (6, 7, 64))
+    yield from pairs((0, 2, 13), (0, 7, 64))
     yield "# The refusals of a reciprocal in their order: wrong words"
     yield "hex FF FF FF"
-    yield from pairs((0, 2, 4294967295), (6, 7, 63, 64))
+    yield from pairs((0, 2, 4294967295), (0, 7, 63, 64))
     yield "# The refusals of a reciprocal in their order: an image"
     yield "hex 02 75 8A"
-    yield from pairs((0, 2, 13), (6, 7, 4294967295))
+    yield from pairs((0, 2, 13), (0, 6, 7, 4294967295))
 
 
-PARTS = [document01, table2, every_operand, spread, bits_to_the_right, wrong_words, each_bit, wrong_neighbours, last_piece, limits, order]
+PARTS = [document01, table2, every_operand, spread, single_precision, bits_to_the_right, wrong_words, each_bit, wrong_neighbours,
+         last_piece, limits, order]
 
 
 def script():

@@ -81,7 +81,7 @@ fn entry(j: u32) -> u32 {
     nodes::NODES_8[j as usize]
 }
 
-// What a precision says of itself, the limits that are named with it, and the most fraction bits of an operand.
+// What a precision says of itself, the limits that are named with it, and the fewest and the most fraction bits of an operand.
 pub(crate) fn precision(k: u32) {
     let p = Precision(k);
     number(p.in_range() as u64);
@@ -91,5 +91,6 @@ pub(crate) fn precision(k: u32) {
     number(Precision::LEAST as u64);
     number(Precision::GREATEST as u64);
     number(Precision::LONGEST_IMAGE as u64);
+    number(operand::LEAST_BITS as u64);
     line(operand::MOST_BITS as u64);
 }

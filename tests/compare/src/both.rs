@@ -101,6 +101,15 @@ impl<'a> Both<'a> {
         self.same(("bound", library::bound_reciprocal(self.judged.k, self.lent, n, x)), ("bound", expected))
     }
 
+    /// An operand, and another that has to get the same answer. It may have more fraction bits, as it has where bits stand to the right.
+    pub fn alike(&mut self, n: u32, x: u64, other_n: u32, other_x: u64) -> Result<(), String> {
+        self.reciprocal(n, x)?;
+        let alone = library::reciprocal(self.judged.k, self.lent, n, x);
+        self.calling(Call::Reciprocal { n: other_n, x: other_x });
+        self.same(library::reciprocal(self.judged.k, self.lent, other_n, other_x), alone)?;
+        self.same(("bound", library::bound_reciprocal(self.judged.k, self.lent, other_n, other_x)), ("bound", alone))
+    }
+
     /// The builder's answer. What it leaves in the buffer is for the buffer's owner to compare.
     pub fn build(&mut self) -> Result<(), String> {
         self.calling(Call::Build);

@@ -3,6 +3,7 @@ use crate::both::{told, Both};
 use crate::independent::{power, precisions, table, width, Judged, MOST_FRACTION_BITS};
 use crate::lent::{Buffer, Guards};
 use crate::random::Random;
+use crate::short::longer;
 use crate::work::{share, Counted};
 
 /// A buffer that starts as a right image, and how its words are judged.
@@ -68,6 +69,12 @@ impl Damaged {
             both.reciprocal(n, ((left + within) << right) + self.random.below(ones + 1))?;
             both.reciprocal(2 * k + 3, left + steps - 1)?;
             both.reciprocal(n, ((left + steps - 1) << right) + ones)?;
+            // A short operand in the piece, from the fewest fraction bits with which one stands at node j; the same with bits to its right.
+            let fewest = (k - k.min(j.trailing_zeros())).max(1);
+            let n = fewest + self.random.below(u64::from(2 * k + 3 - fewest)) as u32;
+            let x = (u64::from(count + j) << n >> k) + self.random.below(1 << n.saturating_sub(k));
+            let (longer_n, longer_x) = longer(&mut self.random, k, n, x);
+            both.alike(n, x, longer_n, longer_x)?;
         }
         self.cases += both.cases;
         self.buffer.as_kept(|| format!("the calls but build, k {k}, on {}", told(k, self.buffer.bytes())))
@@ -186,7 +193,8 @@ fn packed(k: u32, value: impl Fn(usize, u64) -> u64) -> Vec<u8> {
     bits.chunks(8).map(|byte| byte.iter().fold(0, |sum, bit| 2 * sum + u8::from(*bit))).collect()
 }
 
-/// Every content of the images of one byte and of three: the check, and of the rest one node and one operand in turn.
+/// Every content of the images of one byte and of three: the check, and of the rest one node and one operand in turn, with 1 to 7 fraction
+/// bits.
 pub fn every_content(guards: Guards, step: usize) -> Counted {
     let mut works: Vec<(u32, u32, u32)> = vec![(1, 0, 256)];
     works.extend((0..1 << 24).step_by(1 << 16).map(|from| (2, from, from + (1 << 16))));
@@ -203,7 +211,8 @@ pub fn every_content(guards: Guards, step: usize) -> Counted {
             let mut both = Both::new(lent, &damaged.judged, damaged.buffer.bytes());
             both.check()?;
             both.node(content / 8 % 5)?;
-            both.reciprocal(7, 128 + u64::from(content / 4 % 128))?;
+            let (x, lacking) = (128 + u64::from(content / 4 % 128), content / 512 % 7);
+            both.reciprocal(7 - lacking, x >> lacking)?;
             damaged.cases += both.cases;
         }
         damaged.buffer.as_kept(|| format!("check, node and reciprocal, k {k}, on the contents {from:06x} to {:06x}", to - 1))?;

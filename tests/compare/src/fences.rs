@@ -114,7 +114,7 @@ pub fn watch() {
     }
 }
 
-/// The calls but the builder's: the check, each `step`-th node, its word, and operands at both ends of its piece.
+/// The calls but the builder's: the check, each `step`-th node, its word, and operands at both ends of its piece, short ones too.
 fn calls(both: &mut Both, step: usize) -> Result<(), String> {
     let k = both.judged.k;
     let words = power(k.min(12)) as u32;
@@ -122,7 +122,7 @@ fn calls(both: &mut Both, step: usize) -> Result<(), String> {
     for j in (0..words).step_by(step).chain(words - 1..words + 2).chain([u32::MAX]) {
         both.node(j)?;
         both.word_bytes(j)?;
-        for n in [2 * k.min(12) + 3, MOST_FRACTION_BITS] {
+        for n in [k.min(12) + 1, 2 * k.min(12) + 2, 2 * k.min(12) + 3, MOST_FRACTION_BITS] {
             let piece = 1u64 << (n - k.min(12));
             let node = u128::from(words + j.min(words)) * u128::from(piece);
             for x in [node, node + u128::from(piece) - 1] {

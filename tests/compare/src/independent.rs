@@ -9,6 +9,7 @@ pub const LEAST: u32 = 1;
 pub const GREATEST: u32 = 12;
 /// The image lengths, as they are listed in the scope.
 pub const LENGTHS: [usize; 12] = [1, 3, 8, 20, 48, 112, 256, 576, 1280, 2816, 6144, 13312];
+pub const LEAST_FRACTION_BITS: u32 = 1;
 pub const MOST_FRACTION_BITS: u32 = 63;
 
 pub fn is_precision(k: u32) -> bool {
@@ -80,7 +81,7 @@ fn piece(k: u32, n: u32, x: u64) -> usize {
     (u128::from(x) * power(k) / power(n) - power(k)) as usize
 }
 
-/// The operand without the bits that the table does not look at, counted in 1 / 2^(2k+3).
+/// The operand counted in 1 / 2^(2k+3), and what is left over dropped: the table looks at no other bits.
 fn cut(k: u32, n: u32, x: u64) -> u128 {
     u128::from(x) * power(2 * k + 3) / power(n)
 }
@@ -117,7 +118,7 @@ pub fn node_refusals(k: u32, length: usize, j: u32) -> [Refusal; 3] {
 /// The refusals of the reciprocal but for wrong words.
 pub fn reciprocal_refusals(k: u32, length: usize, n: u32, x: u64) -> [Refusal; 4] {
     let [first, second] = image_refusals(k, length);
-    let fraction_bits = u64::from(n) < 2 * u64::from(k) + 3 || n > MOST_FRACTION_BITS;
+    let fraction_bits = !(LEAST_FRACTION_BITS..=MOST_FRACTION_BITS).contains(&n);
     let not_normalised = u128::from(x) < power(n) || u128::from(x) >= 2 * power(n);
     [first, second, (4, fraction_bits), (5, not_normalised)]
 }

@@ -15,9 +15,11 @@ mod library;
 mod operands;
 mod random;
 mod refusals;
+mod short;
 mod unwritten;
 mod work;
 
+use independent::GREATEST;
 use lent::Guards::{Bytes, Watched};
 use std::cell::Cell;
 use std::process::exit;
@@ -49,6 +51,9 @@ impl Parts<'_> {
         let shifts: Vec<usize> = (0..16).collect();
         self.part("every cut operand", operands::every_cut_operand);
         self.part("longer operands", operands::long_operands);
+        self.part("every short operand", || short::every_one(Bytes, GREATEST));
+        self.part("bits to the right of short operands", || short::to_the_right(Bytes, GREATEST));
+        self.part("limits of operands", || short::limits(Bytes));
         self.part("image lengths", images::lengths);
         self.part("constant nodes", images::constant_nodes);
         self.part("images built", || images::built(Bytes, &shifts));
@@ -67,6 +72,9 @@ impl Parts<'_> {
         self.part("blocks not written to", unwritten::built);
         self.part("images built", || images::built(Watched, &[0]));
         self.part("images read", || images::read(Watched, &[0]));
+        self.part("every short operand", || short::every_one(Watched, 4));
+        self.part("bits to the right of short operands", || short::to_the_right(Watched, 3));
+        self.part("limits of operands", || short::limits(Watched));
         self.part("one bit changed", || damage::one_bit(Watched, |k| 1 << k));
         self.part("two bits changed", || damage::two_bits(Watched, 1, 10));
         self.part("any content", || damage::any_content(Watched, 1));

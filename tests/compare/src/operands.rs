@@ -5,7 +5,7 @@ use crate::library::{self, Answer};
 use crate::random::Random;
 use crate::work::{share, Counted};
 
-fn served(value: u64) -> Answer {
+pub fn served(value: u64) -> Answer {
     Answer { number: 0, place: 0, value }
 }
 
@@ -19,48 +19,53 @@ fn an_ulp_off(k: u32, n: u32, x: u64, r: u64) -> String {
     format!("reciprocal, k {k}, its image, n {n}, x {x}: {r} is an ulp off or more, expected is less")
 }
 
-/// Pieces side by side, from one up to another.
-struct Pieces {
+/// Pieces side by side, from one up to another, and the operands with n fraction bits in them.
+pub struct Pieces {
     k: u32,
+    n: u32,
     from: u64,
     to: u64,
 }
 
+impl Pieces {
+    /// All pieces of a precision, a few hundred thousand operands together.
+    pub fn all(k: u32, n: u32) -> impl Iterator<Item = Pieces> {
+        let count = 1 << k;
+        let together = (1u64 << 18 >> n.saturating_sub(k)).min(count);
+        (0..count).step_by(together as usize).map(move |from| Pieces { k, n, from, to: from + together })
+    }
+}
+
 /// Every operand with 2k + 3 fraction bits at every precision.
 pub fn every_cut_operand() -> Counted {
-    let mut works = Vec::new();
-    for k in precisions().rev() {
-        let pieces = 1 << k;
-        let step = (1u64 << 18 >> (k + 3)).min(pieces);
-        works.extend((0..pieces).step_by(step as usize).map(|from| Pieces { k, from, to: from + step }));
-    }
-    share(&works, cut_operands)
+    let works: Vec<Pieces> = precisions().rev().flat_map(|k| Pieces::all(k, 2 * k + 3)).collect();
+    share(&works, |pieces| every_operand(Guards::Bytes, pieces))
 }
 
 /// The line between two nodes is drawn step by step: at each operand the point falls by the same fraction of an ulp, and R is the
-/// whole ulps below it. All of it is held in whole parts, of which an ulp has 4 × 2^(k+3).
-fn cut_operands(pieces: &Pieces) -> Counted {
-    let k = pieces.k;
-    let n = 2 * k + 3;
+/// whole ulps below it. All of it is held in whole parts, of which a table unit has as many as a piece has operands. With fewer than
+/// k fraction bits an operand stands at a node, but not at each.
+pub fn every_operand(guards: Guards, pieces: &Pieces) -> Counted {
+    let (k, n) = (pieces.k, pieces.n);
     let nodes = &table(k).nodes;
-    let steps = 1u64 << (k + 3);
+    let (steps, apart) = (1u64 << n.saturating_sub(k), 1usize << k.saturating_sub(n));
     let ulp = 4 * steps as i64;
     let one = 1u64 << (n + 2 * k + 1);
-    let mut buffer = Buffer::new(Guards::Bytes, (pieces.from % 16) as usize, &table(k).image);
+    let mut buffer = Buffer::new(guards, (pieces.from % 16) as usize, &table(k).image);
     let lent = buffer.lent();
     let mut cases = 0;
-    for j in pieces.from..pieces.to {
+    for j in (pieces.from..pieces.to).step_by(apart) {
         let (high, low) = (nodes[j as usize], nodes[j as usize + 1]);
         let fall = (high - low) as i64;
         let (mut whole, mut parts) = (high / 4, (high % 4 * steps) as i64);
-        let left = ((1 << k) + j) * steps;
-        for t in left..left + steps {
-            let (plain, bound) = (library::reciprocal(k, lent, n, t), library::bound_reciprocal(k, lent, n, t));
+        let left = ((1 << k) + j) * steps / apart as u64;
+        for x in left..left + steps {
+            let (plain, bound) = (library::reciprocal(k, lent, n, x), library::bound_reciprocal(k, lent, n, x));
             if plain != served(whole) || bound != served(whole) {
-                return Err(differs(k, n, t, plain, bound, served(whole)));
+                return Err(differs(k, n, x, plain, bound, served(whole)));
             }
-            if (plain.value * t).abs_diff(one) >= t {
-                return Err(an_ulp_off(k, n, t, plain.value));
+            if (plain.value * x).abs_diff(one) >= x {
+                return Err(an_ulp_off(k, n, x, plain.value));
             }
             parts -= fall;
             while parts < 0 {
@@ -71,7 +76,7 @@ fn cut_operands(pieces: &Pieces) -> Counted {
         assert_eq!((whole, parts), (low / 4, (low % 4 * steps) as i64), "the line does not end at its node");
         cases += steps;
     }
-    buffer.as_kept(|| format!("reciprocals at k {k}, pieces {} to {}", pieces.from, pieces.to - 1))?;
+    buffer.as_kept(|| format!("reciprocals at k {k}, n {n}, pieces {} to {}", pieces.from, pieces.to - 1))?;
     Ok(cases)
 }
 

@@ -2,6 +2,7 @@
 use crate::both::{told, Both};
 use crate::independent::{
     constant_node, image_refusals, is_precision, node_refusals, power, reciprocal_refusals, table, Judged, Refusal, GREATEST, LENGTHS,
+    MOST_FRACTION_BITS,
 };
 use crate::lent::{Buffer, Guards};
 use crate::library::{self, wide, Answer, Lent, Part, TableUnits};
@@ -162,7 +163,7 @@ pub fn upper_halves(guards: Guards) -> Counted {
         for upper in [1, 1 << 31, u64::from(u32::MAX), random.next() >> 32, random.next() >> 32, random.next() >> 32] {
             for _ in 0..16 {
                 let j = random.below((power(k.min(GREATEST)) + 2) as u64) as u32;
-                let n = 2 * k.min(GREATEST) + 2 + random.below(40) as u32;
+                let n = random.below(u64::from(MOST_FRACTION_BITS) + 3) as u32;
                 let x = (1 << n.min(63)) + random.below(1 << n.min(63));
                 let [wide_k, wide_j, wide_n] = [k, j, n].map(|number| u64::from(number) | upper << 32);
                 let found = (
