@@ -1,13 +1,14 @@
 -- The laws of a cut operand at every k: where it lies, and how large P and R are.
 -- Assumes nothing.
 use mathlib.Core.Path.{_≡_, sym, ap, _∙_}
-use Prim.Native.Nat.{ℕ, _+_, _-_, _*_, _^_, _≤_, _<_}
-use native.Mathlib.Nat.{le-of-lt, mod-lt, sub-le, mul-le-mul, mul-le-mul-right, le-div-iff-mul-le, div-lt-iff-lt-mul, div-le-of-le-mul}
+use Prim.Native.Nat.{ℕ, _+_, _-_, _*_, _/_, _%_, _^_, _≤_, _<_}
+use native.Mathlib.Nat.{le-of-lt, mod-lt, add-mul-div-right, add-mul-mod-self-right, sub-le, mul-le-mul, mul-le-mul-right, le-div-iff-mul-le, div-lt-iff-lt-mul, div-le-of-le-mul}
 use native.Mathlib.Omega.{arith}
 use lib.Pow.{pow-pos, pow-add, pow-mono}
 use Rattle.nodes.specs.Nodes.{node}
-use Rattle.nodes.proofs.Nodes.{node-first, node-last, node-ordered, node-near}
+use Rattle.nodes.proofs.Nodes.{node-last, node-most, node-ordered, node-near}
 use Rattle.interpolation.specs.Algorithm.{index, nodeNumber, fraction, productSum, chopped, cutProductSum, cutReciprocal}
+use Rattle.interpolation.specs.Inner.{cutOf}
 use Rattle.interpolation.proofs.Pieces as pieces
 use Rattle.interpolation.proofs.Powers as powers
 use Rattle.interpolation.proofs.Table.{sum-parts, sum-least}
@@ -32,6 +33,28 @@ module _ (k t : ℕ) (least : 2 ^ (2 * k + 3) ≤ t) (most : t < 2 ^ (2 * k + 4)
 
   pub cut-number-below : nodeNumber k t < 2 ^ k
   cut-number-below = pieces.number-below (2 ^ k) (2 ^ (k + 3)) t (pow-pos (k + 3)) from to
+
+-- a cut operand by its fraction bits: the first k of them are j, and the others are f
+module _ (k bits : ℕ) where
+  -- its leading one stands for 2^k pieces
+  in-pieces : cutOf k bits ≡ bits + 2 ^ k * 2 ^ (k + 3)
+  in-pieces = omega (arith, powers.least k 2 3, ap (λ (x : ℕ). 2 ^ k * x) (powers.width k 2 3))
+
+  pub bits-number : nodeNumber k (cutOf k bits) ≡ bits / 2 ^ (k + 3)
+  bits-number =
+      let i : index k (cutOf k bits) ≡ bits / 2 ^ (k + 3) + 2 ^ k =
+      ap (λ (t : ℕ). t / 2 ^ (k + 3)) in-pieces ∙ add-mul-div-right bits (2 ^ k) (pow-pos (k + 3)) in
+      omega (arith, i)
+
+  pub bits-fraction : fraction k (cutOf k bits) ≡ bits % 2 ^ (k + 3)
+  bits-fraction = ap (λ (t : ℕ). t % 2 ^ (k + 3)) in-pieces ∙ add-mul-mod-self-right bits (2 ^ k) (2 ^ (k + 3))
+
+  -- and it is in range
+  pub bits-least : 2 ^ (2 * k + 3) ≤ cutOf k bits
+  bits-least = omega arith
+
+  pub bits-most : bits < 2 ^ (2 * k + 3) → cutOf k bits < 2 ^ (2 * k + 4)
+  bits-most h = omega (arith, h, pow-add 2 (2 * k) 3, pow-add 2 (2 * k) 4)
 
 -- f is below 2^(k+3) at every t
 pub cut-fraction-below : (k t : ℕ) → fraction k t < 2 ^ (k + 3)
@@ -78,7 +101,7 @@ module _ (k c c' f : ℕ) (falls : c' ≤ c) (inside : f ≤ 2 ^ (k + 3)) where
 
 -- both nodes of a piece lie between the first and the last one, and fall
 pub cut-node-most : (k t : ℕ) → node k (nodeNumber k t) ≤ 2 ^ (2 * k + 3)
-cut-node-most k t = omega (arith, node-first k, node-ordered k {i = 0} {j = nodeNumber k t} (omega arith))
+cut-node-most k t = node-most k (nodeNumber k t)
 
 pub cut-node-falls : (k t : ℕ) → node k (nodeNumber k t + 1) ≤ node k (nodeNumber k t)
 cut-node-falls k t = node-ordered k {i = nodeNumber k t} {j = nodeNumber k t + 1} (omega arith)

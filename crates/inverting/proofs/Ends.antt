@@ -44,14 +44,14 @@ module _ (k : ℕ) (s : List ℕ) (t : ℕ) (kept : ImageKept k s) (least : 2 ^ 
   bothWords = words.bothWords k s (nodeNumber k t) kept cut-below (own-bytes k s kept bytes)
 
   -- the word of node j is judged first, then that of node j + 1, and R is interpolated between what they stand for
-  pub ends-of-cut : endsOutcome k bothWords t ≡ cutOutcome k s t
+  pub ends-of-cut : endsOutcome k bothWords (nodeNumber k t) (fraction k t) ≡ cutOutcome k s t
   ends-of-cut =
-      by (passes k (nodeNumber k t) (lowerEnd k bothWords t)) (passes k (nodeNumber k t + 1) (upperEnd k bothWords t))
+      by (passes k (nodeNumber k t) (lowerEnd k bothWords (nodeNumber k t))) (passes k (nodeNumber k t + 1) (upperEnd k bothWords (nodeNumber k t)))
       (words.lower-tells k s (nodeNumber k t) kept cut-below (own-bytes k s kept bytes))
       (words.upper-tells k s (nodeNumber k t) kept cut-below (own-bytes k s kept bytes))
     where
       by : (a b : Bool) → wordRefusal (plain k) s (nodeNumber k t) .applies ≡ not a → wordRefusal (plain k) s (nodeNumber k t + 1) .applies ≡ not b
-          → cond (not a) (wrongAt (nodeNumber k t)) (cond (not b) (wrongAt (nodeNumber k t + 1)) (served (chopped k (productSum k (lowerEnd k bothWords t) (upperEnd k bothWords t) (fraction k t)))))
+          → cond (not a) (wrongAt (nodeNumber k t)) (cond (not b) (wrongAt (nodeNumber k t + 1)) (served (chopped k (productSum k (lowerEnd k bothWords (nodeNumber k t)) (upperEnd k bothWords (nodeNumber k t)) (fraction k t)))))
           ≡ cutOutcome k s t
       by false b e d = sym (first-wrong k s t e)
       by true false e d = sym (next-wrong k s t e d)

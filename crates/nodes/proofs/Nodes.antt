@@ -56,6 +56,10 @@ module _ (k : ℕ) where
   pub node-ordered : {i j : ℕ} → i ≤ j → node k j ≤ node k i
   node-ordered {i} {j} h = antitone (2 ^ (3 * k + 3)) {i = 2 ^ k + i} {i' = 2 ^ k + j} (omega (arith, pow-pos k)) (omega arith)
 
+  -- and none is greater than node 0
+  pub node-most : (j : ℕ) → node k j ≤ 2 ^ (2 * k + 3)
+  node-most j = omega (arith, node-first, node-ordered {i = 0} {j = j} (omega arith))
+
   -- neighbours differ by less than 2^(k+3) (document 002, Lemma 1)
   pub node-near : (j : ℕ) → node k j < node k (j + 1) + 2 ^ (k + 3)
   node-near j =

@@ -3,10 +3,11 @@
 use mathlib.Core.Path.{_≡_, sym, ap, _∙_}
 use mathlib.Core.Bool.{true, and-eq-true-iff}
 use Prim.Native.Nat.{ℕ, zero, suc, _+_, _-_, _*_, _/_, _%_, _^_, _≤_, _<_}
-use native.Mathlib.Nat.{mod-lt, mod-eq-of-lt, mul-one, div-one, div-eq-of-lt-le}
+use native.Mathlib.Nat.{mod-lt, mul-one, mul-assoc, div-one, div-eq-of-lt-le}
 use native.Mathlib.Omega.{arith}
 use lib.Dec.{eqb, leb, ltb}
-use lib.Pow.{pow-add, pow-pos, pow-mono, split, shl-shr, shr-shr, high}
+use lib.Pow.{pow-add, pow-pos, split, shl-shr, shr-shr, high}
+use lib.Arith.{mod-mul}
 use borrow.Author.Tests.{leb-true, ltb-true, eqb-true, le-leb, lt-ltb, eq-eqb}
 use Rattle.bools.proofs.Bools.{same}
 use Rattle.operand.specs.Operand.{leastBits, mostBits, isFractionCount, isNormalised, cutTo, cutOperand}
@@ -47,6 +48,13 @@ normalised-high n X =
     (λ t. let b = normalised-in n X t in eq-eqb (X / 2 ^ n) 1 (high-one n X (b .0) (b .1)))
     (λ t. let b = one-high n X (eqb-true (X / 2 ^ n) 1 t) in in-normalised n X (b .0) (b .1))
 
+-- the s bits above the lowest d of a number
+field : (A s d : ℕ) → A % 2 ^ (s + d) / 2 ^ d ≡ A / 2 ^ d % 2 ^ s
+field A s d =
+    ap (λ (x : ℕ). A % x / 2 ^ d) (pow-add 2 s d)
+    ∙ ap (λ (x : ℕ). x / 2 ^ d) (mod-mul A (pow-pos s) (pow-pos d))
+    ∙ high (A / 2 ^ d % 2 ^ s) d (mod-lt A (pow-pos d))
+
 -- X with s of its n fraction bits, for any s
 module _ (s n : ℕ) where
   -- where it has as many or more, the others are cut off
@@ -77,11 +85,26 @@ module _ (s n : ℕ) where
   pub cut-range : (X : ℕ) → 2 ^ n ≤ X → X < 2 ^ (n + 1) → (2 ^ s ≤ cutTo s n X) × (cutTo s n X < 2 ^ (s + 1))
   cut-range X l h = one-high s (cutTo s n X) (cut-high X ∙ high-one n X l h)
 
-  -- so it has its place in 64 bits where s is at most 63
-  pub cut-fits : (X : ℕ) → 2 ^ n ≤ X → X < 2 ^ (n + 1) → s ≤ 63 → cutTo s n X % 2 ^ 64 ≡ cutTo s n X
-  cut-fits X l h small =
-      let more : s + 1 ≤ 64 = omega (arith, small) in
-      mod-eq-of-lt (omega (arith, cut-range X l h .1, pow-mono more))
+  -- so it is its leading one and its fraction bits
+  pub cut-leading : (X : ℕ) → 2 ^ n ≤ X → X < 2 ^ (n + 1) → 2 ^ s + cutTo s n X % 2 ^ s ≡ cutTo s n X
+  cut-leading X l h =
+      omega (arith, split (cutTo s n X) s, ap (λ (x : ℕ). x * 2 ^ s) (cut-high X ∙ high-one n X l h))
+
+  -- within W bits, the fraction bits are had by shifting X up as far as n leaves room, and down again as far as s does
+  pub cut-shifted : (W X : ℕ) → n ≤ W → s ≤ W → X * 2 ^ (W - n) % 2 ^ W / 2 ^ (W - s) ≡ cutTo s n X % 2 ^ s
+  cut-shifted W X a b =
+      let all : W ≡ s + (W - s) = omega (arith, b) in
+      let room = W - n - (s - n) in
+      let up : W - n ≡ (s - n) + room = omega (arith, a, b) in
+      let down : W - s ≡ room + (n - s) = omega (arith, a, b) in
+      ap (λ (e : ℕ). X * 2 ^ (W - n) % 2 ^ e / 2 ^ (W - s)) all
+      ∙ field (X * 2 ^ (W - n)) s (W - s)
+      ∙ ap (λ (x : ℕ). x % 2 ^ s)
+      (ap (λ (e : ℕ). X * 2 ^ (W - n) / 2 ^ e) down
+      ∙ sym (shr-shr (X * 2 ^ (W - n)) room (n - s))
+      ∙ ap (λ (x : ℕ). x / 2 ^ (n - s))
+      (ap (λ (x : ℕ). x / 2 ^ room) (ap (λ (e : ℕ). X * 2 ^ e) up ∙ ap (λ (x : ℕ). X * x) (pow-add 2 (s - n) room) ∙ sym (mul-assoc X (2 ^ (s - n)) (2 ^ room)))
+      ∙ shl-shr (X * 2 ^ (s - n)) room))
 
   -- the greatest operand is cut to the greatest
   pub cut-greatest : s ≤ n → (X : ℕ) → X + 1 ≡ 2 ^ (n + 1) → cutTo s n X + 1 ≡ 2 ^ (s + 1)

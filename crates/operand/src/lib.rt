@@ -1,8 +1,7 @@
 // An operand X with n fraction bits: the limits that it must keep, and how it is cut for the table.
 ghost use mathlib.Core.Path.{_≡_};
-ghost use Prim.Native.Nat.{_%_, _^_};
-ghost use Rattle.operand.specs.Operand.{cutTo, isFractionCount, leastBits, mostBits};
-ghost use Rattle.operand.specs.Inner.{operandNumber};
+ghost use Rattle.operand.specs.Operand.{isFractionCount, leastBits, mostBits};
+ghost use Rattle.operand.specs.Inner.{cutFraction, operandNumber};
 
 // The fewest fraction bits of an operand.
 pub const LEAST_BITS: u32 = 1;
@@ -35,13 +34,17 @@ pub fn refusal_number(n: u32, x: u64) -> u32
     0
 }
 
-// The operand x, which has n fraction bits, with `kept` of them: what it has beyond is cut off, and what it lacks is padded with zeros. Of a
-// result that has no place in 64 bits these are the lowest 64.
+// The first `kept` fraction bits of the operand x, which has n of them: what it has beyond is cut off, and what it lacks is padded with zeros.
+// They are shifted to the top of 64 bits, where the leading one falls off, and down again, so that neither side is a case of its own.
+// Where n or `kept` is above MOST_BITS there are none.
 pub fn cut(kept: u32, n: u32, x: u64) -> u64
-    ensures { λ r. ⌜ r ≡ cutTo kept n x % 2 ^ 64 ⌝ }
+    ensures { λ r. ⌜ r ≡ cutFraction kept n x ⌝ }
 {
-    if n < kept {
-        return bits::padded(x, kept - n);
+    if MOST_BITS < n {
+        return 0;
     }
-    bits::high(x, n - kept)
+    if MOST_BITS < kept {
+        return 0;
+    }
+    bits::high(bits::padded(x, 64 - n), 64 - kept)
 }

@@ -15,38 +15,35 @@ use Rattle.quotient.specs.Inner.{numeratorBits, roundsUp}
 use Rattle.nodes.specs.Nodes.{leadingOne, node, decodeUnder}
 use Rattle.nodes.specs.Inner.{quotientsOf}
 use Rattle.nodes.specs.declared.Quotients.{Quotients}
-use Rattle.nodes.proofs.Nodes.{decode-most, numerator-whole, passed-is-node}
+use Rattle.nodes.proofs.Nodes.{node-most, node-ordered, decode-most, numerator-whole, passed-is-node}
 use Rattle.nodes.proofs.Numbers.{own-numbers}
 use Rattle.answers.specs.Refusal.{served}
-use Rattle.interpolation.specs.Algorithm.{nodeNumber, productSum, chopped}
-use Rattle.interpolation.proofs.Cut.{cut-number-below, cut-fraction-below, cut-node-most, cut-node-falls, product-most, chopped-most}
+use Rattle.interpolation.specs.Algorithm.{productSum, chopped}
+use Rattle.interpolation.proofs.Cut.{product-most, chopped-most}
 use Rattle.inverting.specs.Inner.{bothIn, lowerEnd, upperEnd, passes}
 use Rattle.inverting.proofs.Ends.{word-above, code-served, code-wrong}
 use Rattle.inverting.proofs.by_ends.Statement.{statement}
 use Rattle.inverting.proofs.by_ends.Tie as tie
 
--- the precision, both words, the cut operand and its node number, at the place where the code has the table
+-- the precision, both words, the number of the node and f, at the place where the code has the table
 abbrev k : tie.After-table → ℕ
 k c = c .before .args .precision
 
 abbrev both : tie.After-table → ℕ
 both c = bothIn (k c) (c .before .args .window)
 
-abbrev t : tie.After-table → ℕ
-t c = c .before .args .t
-
 abbrev j : tie.After-table → ℕ
-j c = nodeNumber (k c) (t c)
+j c = c .before .args .j
 
-abbrev number : tie.After-table → ℕ
-number c = c .before .args .j
+abbrev f : tie.After-table → ℕ
+f c = c .before .args .fraction % 2 ^ (k c + 3)
 
-is-number : (c : tie.After-table) → number c ≡ j c
-is-number c = c .before .pre .number
+f-below : (c : tie.After-table) → f c < 2 ^ (k c + 3)
+f-below c = mod-lt (c .before .args .fraction) (pow-pos (k c + 3))
 
 -- j is below 2^k, and so of 12 bits
 below : (c : tie.After-table) → j c < 2 ^ k c
-below c = cut-number-below (k c) (t c) (c .before .pre .least) (c .before .pre .most)
+below c = c .before .pre .below
 
 few : (c : tie.After-table) → 2 ^ k c ≤ 2 ^ 12
 few c = pow-mono (c .before .pre .high)
@@ -97,19 +94,19 @@ first-below c =
 abbrev at1 : tie.After-decoded → tie.After-table
 at1 c = c .before .before .before
 
-lower : (c : tie.After-decoded) → c .decoded .result .0 ≡ lowerEnd (k (at1 c)) (both (at1 c)) (t (at1 c))
+lower : (c : tie.After-decoded) → c .decoded .result .0 ≡ lowerEnd (k (at1 c)) (both (at1 c)) (j (at1 c))
 lower c =
     let at = at1 c in
     c .decoded .ensures
-    ∙ ap (λ (q : Quotients). decodeUnder (q .lead) (number at) (c .before .high2 .result)) (table at)
-    ∙ ap₂ (decodeUnder (leadingOne (k at))) (is-number at) (first-word (c .before))
+    ∙ ap (λ (q : Quotients). decodeUnder (q .lead) (j at) (c .before .high2 .result)) (table at)
+    ∙ ap (decodeUnder (leadingOne (k at)) (j at)) (first-word (c .before))
 
-lower-test : (c : tie.After-rounds-up) → c .rounds-up .result ≡ passes (k (at1 (c .before .before))) (j (at1 (c .before .before))) (lowerEnd (k (at1 (c .before .before))) (both (at1 (c .before .before))) (t (at1 (c .before .before))))
+lower-test : (c : tie.After-rounds-up) → c .rounds-up .result ≡ passes (k (at1 (c .before .before))) (j (at1 (c .before .before))) (lowerEnd (k (at1 (c .before .before))) (both (at1 (c .before .before))) (j (at1 (c .before .before))))
 lower-test c =
     let node = c .before .before in
     let at = at1 node in
-    let told : c .rounds-up .result ≡ tested at (number at) (node .decoded .result .0) = c .rounds-up .ensures in
-    told ∙ is-tested at (number at) (node .decoded .result .0) ∙ ap₂ (passes (k at)) (is-number at) (lower node)
+    let told : c .rounds-up .result ≡ tested at (j at) (node .decoded .result .0) = c .rounds-up .ensures in
+    told ∙ is-tested at (j at) (node .decoded .result .0) ∙ ap (passes (k at) (j at)) (lower node)
 
 -- behind that test
 abbrev first-node : tie.Else1 → tie.After-decoded
@@ -130,19 +127,19 @@ second-below c = let at = at2 (c .before) in mod-lt (both at) (pow-pos (wordWidt
 abbrev at3 : tie.After-decoded2 → tie.After-table
 at3 c = at2 (c .before .before)
 
-upper : (c : tie.After-decoded2) → c .decoded2 .result .0 ≡ upperEnd (k (at3 c)) (both (at3 c)) (t (at3 c))
+upper : (c : tie.After-decoded2) → c .decoded2 .result .0 ≡ upperEnd (k (at3 c)) (both (at3 c)) (j (at3 c))
 upper c =
     let at = at3 c in
     c .decoded2 .ensures
-    ∙ ap (λ (q : Quotients). decodeUnder (q .lead) (number at + 1) (c .before .low .result)) (table at)
-    ∙ ap₂ (λ (i word : ℕ). decodeUnder (leadingOne (k at)) (i + 1) word) (is-number at) (second-word (c .before))
+    ∙ ap (λ (q : Quotients). decodeUnder (q .lead) (j at + 1) (c .before .low .result)) (table at)
+    ∙ ap (decodeUnder (leadingOne (k at)) (j at + 1)) (second-word (c .before))
 
-upper-test : (c : tie.After-rounds-up2) → c .rounds-up2 .result ≡ passes (k (at3 (c .before .before))) (j (at3 (c .before .before)) + 1) (upperEnd (k (at3 (c .before .before))) (both (at3 (c .before .before))) (t (at3 (c .before .before))))
+upper-test : (c : tie.After-rounds-up2) → c .rounds-up2 .result ≡ passes (k (at3 (c .before .before))) (j (at3 (c .before .before)) + 1) (upperEnd (k (at3 (c .before .before))) (both (at3 (c .before .before))) (j (at3 (c .before .before))))
 upper-test c =
     let node = c .before .before in
     let at = at3 node in
-    let told : c .rounds-up2 .result ≡ tested at (number at + 1) (node .decoded2 .result .0) = c .rounds-up2 .ensures in
-    told ∙ is-tested at (number at + 1) (node .decoded2 .result .0) ∙ ap₂ (λ (i c : ℕ). passes (k at) (i + 1) c) (is-number at) (upper node)
+    let told : c .rounds-up2 .result ≡ tested at (j at + 1) (node .decoded2 .result .0) = c .rounds-up2 .ensures in
+    told ∙ is-tested at (j at + 1) (node .decoded2 .result .0) ∙ ap (passes (k at) (j at + 1)) (upper node)
 
 -- behind both tests the ends are the nodes
 abbrev second-node : tie.Else2 → tie.After-decoded2
@@ -160,31 +157,31 @@ low-end c = first-node (one-passed c) .decoded .result .0
 abbrev high-end : tie.Else2 → ℕ
 high-end c = second-node c .decoded2 .result .0
 
-lower-passes : (c : tie.Else1) → passes (k (at2 c)) (j (at2 c)) (lowerEnd (k (at2 c)) (both (at2 c)) (t (at2 c))) ≡ true
+lower-passes : (c : tie.Else1) → passes (k (at2 c)) (j (at2 c)) (lowerEnd (k (at2 c)) (both (at2 c)) (j (at2 c))) ≡ true
 lower-passes c = sym (lower-test (c .before)) ∙ not-false (c .before .rounds-up .result) (c .if1 .left)
 
-upper-passes : (c : tie.Else2) → passes (k (at4 c)) (j (at4 c) + 1) (upperEnd (k (at4 c)) (both (at4 c)) (t (at4 c))) ≡ true
+upper-passes : (c : tie.Else2) → passes (k (at4 c)) (j (at4 c) + 1) (upperEnd (k (at4 c)) (both (at4 c)) (j (at4 c))) ≡ true
 upper-passes c = sym (upper-test (c .before)) ∙ not-false (c .before .rounds-up2 .result) (c .if2 .left)
 
 low-is-node : (c : tie.Else2) → low-end c ≡ node (k (at4 c)) (j (at4 c))
 low-is-node c =
     let at = at4 c in
-    lower (first-node (one-passed c)) ∙ passed-is-node (k at) (j at) (lowerEnd (k at) (both at) (t at)) (lower-passes (one-passed c))
+    lower (first-node (one-passed c)) ∙ passed-is-node (k at) (j at) (lowerEnd (k at) (both at) (j at)) (lower-passes (one-passed c))
 
 high-is-node : (c : tie.Else2) → high-end c ≡ node (k (at4 c)) (j (at4 c) + 1)
 high-is-node c =
     let at = at4 c in
-    upper (second-node c) ∙ passed-is-node (k at) (j at + 1) (upperEnd (k at) (both at) (t at)) (upper-passes c)
+    upper (second-node c) ∙ passed-is-node (k at) (j at + 1) (upperEnd (k at) (both at) (j at)) (upper-passes c)
 
 -- so they fall from the one to the other
 falling : (c : tie.Else2) → high-end c ≤ low-end c
-falling c = omega (arith, low-is-node c, high-is-node c, cut-node-falls (k (at4 c)) (t (at4 c)))
+falling c = omega (arith, low-is-node c, high-is-node c, node-ordered (k (at4 c)) {i = j (at4 c)} {j = j (at4 c) + 1} (omega arith))
 
 -- and their products by the width of a piece have few bits
 products : (c : tie.Else2) → (low-end c * 2 ^ (k (at4 c) + 3) ≤ 2 ^ 42) × (high-end c * 2 ^ (k (at4 c) + 3) ≤ 2 ^ 42)
 products c =
     let at = at4 c in
-    let first = product-most (k at) (low-end c) (omega (arith, low-is-node c, cut-node-most (k at) (t at))) in
+    let first = product-most (k at) (low-end c) (omega (arith, low-is-node c, node-most (k at) (j at))) in
     let top : 3 * k at + 6 ≤ 42 = omega (arith, at .before .pre .high) in
     (omega (arith, first, pow-mono top), omega (arith, first, pow-mono top, mul-le-mul-right (2 ^ (k at + 3)) (falling c)))
 
@@ -210,7 +207,7 @@ decoded-requires : tie.Need-decoded-requires
 decoded-requires c κs = search needs
 
 add-rounds-up : tie.Need-add-rounds-up
-add-rounds-up c = let at = at1 c in omega (arith, is-first at, is-number at, below at, few at)
+add-rounds-up c = let at = at1 c in omega (arith, is-first at, below at, few at)
 
 cast-rounds-up : tie.Need-cast-rounds-up
 cast-rounds-up c =
@@ -226,12 +223,12 @@ add-result c = search needs
 returns : tie.Need-returns
 returns c =
     let at = at1 (c .before .before .before) in
-    let fails : passes (k at) (j at) (lowerEnd (k at) (both at) (t at)) ≡ false =
+    let fails : passes (k at) (j at) (lowerEnd (k at) (both at) (j at)) ≡ false =
     sym (lower-test (c .before)) ∙ not-true (c .before .rounds-up .result) (c .if1 .taken) in
-    rw fails (code-wrong (4294967296 + number at) (j at) (omega (arith, is-number at)))
+    rw fails (code-wrong (4294967296 + j at) (j at) (omega arith))
 
 add-decoded : tie.Need-add-decoded
-add-decoded c = let at = at2 c in omega (arith, is-number at, below at, few at)
+add-decoded c = let at = at2 c in omega (arith, below at, few at)
 
 low-requires : tie.Need-low-requires
 low-requires c κs = search needs
@@ -243,10 +240,10 @@ decoded-requires-2 : tie.Need-decoded-requires-2
 decoded-requires-2 c κs = search needs
 
 add-rounds-up-2 : tie.Need-add-rounds-up-2
-add-rounds-up-2 c = let at = at3 c in omega (arith, is-number at, below at, few at)
+add-rounds-up-2 c = let at = at3 c in omega (arith, below at, few at)
 
 add-rounds-up-3 : tie.Need-add-rounds-up-3
-add-rounds-up-3 c = let at = at3 c in omega (arith, is-first at, is-number at, below at, few at)
+add-rounds-up-3 c = let at = at3 c in omega (arith, is-first at, below at, few at)
 
 cast-rounds-up-2 : tie.Need-cast-rounds-up-2
 cast-rounds-up-2 c =
@@ -263,9 +260,9 @@ returns-2 : tie.Need-returns-2
 returns-2 c =
     let node = c .before .before .before in
     let at = at3 node in
-    let fails : passes (k at) (j at + 1) (upperEnd (k at) (both at) (t at)) ≡ false =
+    let fails : passes (k at) (j at + 1) (upperEnd (k at) (both at) (j at)) ≡ false =
     sym (upper-test (c .before)) ∙ not-true (c .before .rounds-up2 .result) (c .if2 .taken) in
-    rw (lower-passes (node .before .before), fails) (code-wrong (4294967297 + number at) (j at + 1) (omega (arith, is-number at)))
+    rw (lower-passes (node .before .before), fails) (code-wrong (4294967297 + j at) (j at + 1) (omega arith))
 
 add-fraction-bits : tie.Need-add-fraction-bits
 add-fraction-bits c = omega (arith, at4 c .before .pre .high)
@@ -286,7 +283,7 @@ interpolated-requires c κs =
       small = omega (arith, at .before .pre .high);
       fits = omega (arith, most .0, most .1);
       falls = omega (arith, falls);
-      inside = omega (arith, c .low2 .ensures, cut-fraction-below (k at) (t at));
+      inside = omega (arith, c .low2 .ensures, f-below at);
     }
 
 returns-3 : tie.Need-returns-3
@@ -295,14 +292,14 @@ returns-3 c =
     let low = c .before .low2 in
     let at = at4 right in
     let top : 2 * k at + 1 ≤ 25 = omega (arith, at .before .pre .high) in
-    let most : low-end right ≤ 2 ^ (2 * k at + 3) = omega (arith, low-is-node right, cut-node-most (k at) (t at)) in
+    let most : low-end right ≤ 2 ^ (2 * k at + 3) = omega (arith, low-is-node right, node-most (k at) (j at)) in
     let small : c .interpolated .result .0 < 2 ^ 32 =
-    omega (arith, c .interpolated .ensures, chopped-most (k at) (low-end right) (high-end right) (low .result) (falling right) (omega (arith, low .ensures, cut-fraction-below (k at) (t at))) most, pow-mono top) in
+    omega (arith, c .interpolated .ensures, chopped-most (k at) (low-end right) (high-end right) (low .result) (falling right) (omega (arith, low .ensures, f-below at)) most, pow-mono top) in
     code-served (c .interpolated .result .0) small
     ∙ ap served
     (c .interpolated .ensures
     ∙ ap₂ (λ (x y : ℕ). chopped (k at) (productSum (k at) x y (low .result))) (lower (first-node (one-passed right))) (upper (second-node right))
-    ∙ ap (λ (x : ℕ). chopped (k at) (productSum (k at) (lowerEnd (k at) (both at) (t at)) (upperEnd (k at) (both at) (t at)) x)) (low .ensures))
+    ∙ ap (λ (x : ℕ). chopped (k at) (productSum (k at) (lowerEnd (k at) (both at) (j at)) (upperEnd (k at) (both at) (j at)) x)) (low .ensures))
     ∙ rw (lower-passes (one-passed right), upper-passes right)
 
 pub by-ends-spec : {M : Type 1} → statement M

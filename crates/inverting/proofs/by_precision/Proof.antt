@@ -1,6 +1,6 @@
 -- `inverting::by_precision` meets its contract: in each arm the precision is the number that is handed on. Assumes nothing.
 use mathlib.Core.Path.{_≡_, sym, ap, subst, _∙_}
-use Prim.Native.Nat.{ℕ}
+use Prim.Native.Nat.{ℕ, _+_, _%_, _^_}
 use Rattle.inverting.specs.Inner.{IsPieceOf, bothIn, endsOutcome, outcomeOf}
 use borrow.Author.Needs.{needs}
 use Rattle.inverting.proofs.by_precision.Statement.{statement}
@@ -9,13 +9,13 @@ use Rattle.inverting.proofs.by_precision.Tie as tie
 -- in the arm of the number i
 module _ (c : tie.Start) (i : ℕ) (same : c .args .precision ≡ i) where
   -- what is answered for the number is answered for the precision
-  answer : (code : ℕ) → outcomeOf code ≡ endsOutcome i (bothIn i (c .args .window)) (c .args .t)
-      → outcomeOf code ≡ endsOutcome (c .args .precision) (bothIn (c .args .precision) (c .args .window)) (c .args .t)
-  answer code e = e ∙ ap (λ (k : ℕ). endsOutcome k (bothIn k (c .args .window)) (c .args .t)) (sym same)
+  answer : (code : ℕ) → outcomeOf code ≡ endsOutcome i (bothIn i (c .args .window)) (c .args .j) (c .args .fraction % 2 ^ (i + 3))
+      → outcomeOf code ≡ endsOutcome (c .args .precision) (bothIn (c .args .precision) (c .args .window)) (c .args .j) (c .args .fraction % 2 ^ (c .args .precision + 3))
+  answer code e = e ∙ ap (λ (k : ℕ). endsOutcome k (bothIn k (c .args .window)) (c .args .j) (c .args .fraction % 2 ^ (k + 3))) (sym same)
 
   -- and the piece of the precision is one of the number
-  piece : IsPieceOf i (c .args .j) (c .args .t)
-  piece = subst (λ (k : ℕ). IsPieceOf k (c .args .j) (c .args .t)) same (c .pre)
+  piece : IsPieceOf i (c .args .j)
+  piece = subst (λ (k : ℕ). IsPieceOf k (c .args .j)) same (c .pre)
 
 returns : tie.Need-returns
 returns c = answer (c .before .before) 1 (c .before .match .keys1) (c .by-ends .result) (c .by-ends .ensures)

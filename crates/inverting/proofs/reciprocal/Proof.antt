@@ -1,11 +1,14 @@
 -- `inverting::reciprocal` meets its contract: the limits of k and the image, those of n and X, and then the cut operand.
 -- Assumes nothing.
-use mathlib.Core.Path.{_≡_, sym, ap, _∙_}
+use mathlib.Core.Path.{_≡_, refl, sym, ap, _∙_}
 use mathlib.Core.List.{List, _∷_}
 use Prim.Native.Nat.{ℕ, _+_, _*_, _%_, _^_, _≤_}
+use native.Mathlib.Nat.{mod-lt}
 use native.Mathlib.Omega.{arith}
+use lib.Pow.{pow-pos}
 use lib.ListN.{length}
 use borrow.Author.Needs.{needs}
+use borrow.Author.Tests.{le-leb}
 use Rattle.answers.specs.Refusal.{Refusal}
 use Rattle.answers.specs.Answer.{reciprocalGiven}
 use Rattle.answers.proofs.Earlier.{limited}
@@ -13,12 +16,12 @@ use Rattle.image.specs.Inner.{refusalNumber}
 use Rattle.image.proofs.Limits.{limit-refuses, limit-passes, limit-kept}
 use Rattle.operand.specs.Operand.{cutOperand}
 use Rattle.operand.specs.Refusals.{fractionRefusal, operandRefusal}
-use Rattle.operand.specs.Inner.{operandNumber}
-use Rattle.operand.proofs.Laws.{cut-normalised, cut-fits}
+use Rattle.operand.specs.Inner.{operandNumber, cutFraction}
+use Rattle.operand.proofs.Laws.{cut-leading}
 use Rattle.operand.proofs.Limits.{operand-refuses, operand-passes, operand-kept}
 use Rattle.interpolation.specs.Reciprocal.{readReciprocal}
 use Rattle.interpolation.specs.Calls.{cutRefusals, reciprocalOutcome}
-use Rattle.interpolation.specs.Inner.{cutOutcome}
+use Rattle.interpolation.specs.Inner.{cutOf, cutOutcome}
 use Rattle.inverting.specs.Inner.{IsCut}
 use Rattle.inverting.proofs.reciprocal.Statement.{statement}
 use Rattle.inverting.proofs.reciprocal.Tie as tie
@@ -43,23 +46,26 @@ module _ (k : ℕ) (s : List ℕ) (n X : ℕ) where
     operand-given number e broken =
         ap limited e ∙ sym (limit-passes k s later R kept ∙ operand-refuses n X words R (λ none. broken (e ∙ none)))
 
-    -- behind the second n and X keep theirs, and t is an operand of 2k + 3 fraction bits
-    module _ (kept-too : operandNumber n X ≡ 0) (t : ℕ) (cut : t ≡ cutOperand k n X % 2 ^ 64) where
-      whole : t ≡ cutOperand k n X
-      whole =
-          let b = operand-kept n X kept-too in
-          cut ∙ cut-fits (2 * k + 3) n X (b .least) (b .below) (omega (arith, limit-kept k s kept .high))
+    -- behind the second n and X keep theirs, and the bits that are handed on are the fraction bits of t
+    module _ (kept-too : operandNumber n X ≡ 0) (bits : ℕ) (cut : bits ≡ cutFraction (2 * k + 3) n X) where
+      are-bits : bits ≡ cutOperand k n X % 2 ^ (2 * k + 3)
+      are-bits =
+          cut
+          ∙ rw (le-leb n 63 (operand-kept n X kept-too .high), le-leb (2 * k + 3) 63 (omega (arith, limit-kept k s kept .high))) refl
 
-      cut-given : cutOutcome k s t ≡ reciprocalOutcome k s n X
+      whole : cutOf k bits ≡ cutOperand k n X
+      whole =
+          let o = operand-kept n X kept-too in
+          ap (cutOf k) are-bits ∙ cut-leading (2 * k + 3) n X (o .least) (o .below)
+
+      cut-given : cutOutcome k s (cutOf k bits) ≡ reciprocalOutcome k s n X
       cut-given =
           ap (cutOutcome k s) whole ∙ sym (limit-passes k s later R kept ∙ operand-passes n X words R kept-too)
 
-      cut-is : IsCut k s t
+      cut-is : IsCut k s bits
       cut-is =
           let a = limit-kept k s kept in
-          let b = operand-kept n X kept-too in
-          let r = cut-normalised k n X (b .least) (b .below) in
-          rw whole (record { low = a .low; high = a .high; long = a .long; least = r .0; most = r .1 })
+          record { low = a .low; high = a .high; long = a .long; below = rw are-bits (mod-lt (cutOperand k n X) (pow-pos (2 * k + 3))) }
 
 returns : tie.Need-returns
 returns c =

@@ -1,13 +1,21 @@
--- `operand::cut` meets its contract: a shift to the left by the bits that it lacks, or to the right by those that are not kept.
+-- `operand::cut` meets its contract: a shift up by what n leaves of 64 bits, and one down by what the kept bits leave.
 -- Assumes nothing.
-use mathlib.Core.Path.{_≡_, sym, ap, _∙_}
-use Prim.Native.Nat.{ℕ, _-_, _%_, _^_}
-use native.Mathlib.Nat.{mod-eq-of-lt, div-le-self}
+use mathlib.Core.Path.{_≡_, refl, sym, ap, _∙_}
+use Prim.Native.Nat.{ℕ, _-_, _*_, _/_, _%_, _^_, _≤_}
 use native.Mathlib.Omega.{arith}
 use borrow.Author.Needs.{needs}
-use Rattle.operand.proofs.Laws.{cut-long, cut-short}
+use borrow.Author.Tests.{le-leb, lt-leb}
+use Rattle.operand.proofs.Laws.{cut-shifted}
 use Rattle.operand.proofs.cut.Statement.{statement}
 use Rattle.operand.proofs.cut.Tie as tie
+
+returns : tie.Need-returns
+returns c = rw (lt-leb (c .before .args .n) 63 (omega (arith, c .if1 .taken))) refl
+
+returns-2 : tie.Need-returns-2
+returns-2 c =
+    let a = c .before .before .args in
+    rw (le-leb (a .n) 63 (omega (arith, c .before .if1 .left)), lt-leb (a .kept) 63 (omega (arith, c .if2 .taken))) refl
 
 sub-padded : tie.Need-sub-padded
 sub-padded c = search needs
@@ -15,21 +23,24 @@ sub-padded c = search needs
 padded-requires : tie.Need-padded-requires
 padded-requires c κs = search needs
 
-returns : tie.Need-returns
-returns c =
-    let a = c .before .before .args in
-    c .padded .ensures ∙ ap (λ (t : ℕ). t % 2 ^ 64) (sym (cut-short (a .kept) (a .n) (omega (arith, c .before .if1 .taken)) (a .x)))
+sub-high : tie.Need-sub-high
+sub-high c = search needs
 
 high-requires : tie.Need-high-requires
 high-requires c κs = search needs
 
--- what is cut has 64 bits as the operand has
-returns-2 : tie.Need-returns-2
-returns-2 c =
-    let a = c .before .before .args in
+returns-3 : tie.Need-returns-3
+returns-3 c =
+    let behind = c .before .before in
+    let a = behind .before .before .args in
+    let few : a .n ≤ 63 = omega (arith, behind .before .if1 .left) in
+    let kept : a .kept ≤ 63 = omega (arith, behind .if2 .left) in
     c .high .ensures
-    ∙ sym (ap (λ (t : ℕ). t % 2 ^ 64) (cut-long (a .kept) (a .n) (omega (arith, c .before .if1 .left)) (a .x))
-    ∙ mod-eq-of-lt (omega (arith, div-le-self (a .x) (2 ^ (a .n - a .kept)))))
+    ∙ ap (λ (x : ℕ). x / 2 ^ (64 - a .kept)) (c .before .padded .ensures)
+    ∙ cut-shifted (a .kept) (a .n) 64 (a .x) (omega (arith, few)) (omega (arith, kept))
+    ∙ rw (le-leb (a .n) 63 few, le-leb (a .kept) 63 kept) refl
 
 pub cut-spec : {M : Type 1} → statement M
-cut-spec = tie.close (tie.spec sub-padded padded-requires returns high-requires returns-2)
+cut-spec =
+    tie.close
+    (tie.spec returns returns-2 sub-padded padded-requires sub-high high-requires returns-3)
