@@ -103,7 +103,7 @@ fn of_cut(k: Precision, image: &[u8], fraction: u64) -> ReciprocalGiven
     }
 }
 
-// The reciprocal of the operand x, which has n fraction bits: the table looks at 2k + 3 of them.
+// The reciprocal of the operand x, which has n fraction bits: the first 2k + 3 of them decide, zeros where it has fewer.
 pub fn reciprocal(k: Precision, image: &[u8], n: u32, x: u64) -> ReciprocalGiven
     ensures { λ r. ⌜ r ≡ reciprocalGiven (reciprocalOutcome (k .0) (now (image .entry)) n x) ⌝ }
 {

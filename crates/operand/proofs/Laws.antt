@@ -55,7 +55,7 @@ field A s d =
     ∙ ap (λ (x : ℕ). x / 2 ^ d) (mod-mul A (pow-pos s) (pow-pos d))
     ∙ high (A / 2 ^ d % 2 ^ s) d (mod-lt A (pow-pos d))
 
--- X with s of its n fraction bits, for any s
+-- X, which has n fraction bits, with s of them, for any s
 module _ (s n : ℕ) where
   -- where it has as many or more, the others are cut off
   pub cut-long : s ≤ n → (X : ℕ) → cutTo s n X ≡ X / 2 ^ (n - s)
@@ -123,12 +123,24 @@ cut-normalised k n X l h =
     let one-more : 2 * k + 3 + 1 ≡ 2 * k + 4 = omega arith in
     rw one-more at (cut-range (2 * k + 3) n X l h)
 
--- padded bits are none, or no bit is behind the padding
+-- b stays below 2^e when d zeros are written to its right, where d is 0, or e is and so b
 none-lost : (b e d : ℕ) → b < 2 ^ e → (0 < d → e ≡ 0) → b * 2 ^ d < 2 ^ e
 none-lost b e zero h f = omega (arith, h)
 none-lost b e (suc d) h f =
     let none : b ≡ 0 = omega (arith, h, ap (λ (x : ℕ). 2 ^ x) (f (omega arith))) in
     omega (arith, ap (λ (x : ℕ). x * 2 ^ suc d) none, pow-pos e)
+
+-- of m bits that are written to the right, s - n come to stand among the first s fraction bits: none from n = s on, and below it those that are
+-- zero where b is below 2^(n+m-s)
+pub all-behind : (s n m b : ℕ) → s ≤ n → b < 2 ^ m → b < 2 ^ (m - (s - n))
+all-behind s n m b enough bits =
+    let all : m ≡ m - (s - n) = omega (arith, enough) in
+    rw (sym all) bits
+
+pub zeros-before : (s n m b : ℕ) → n ≤ s → b < 2 ^ (n + m - s) → b < 2 ^ (m - (s - n))
+zeros-before s n m b few zeros =
+    let rest : n + m - s ≡ m - (s - n) = omega (arith, few) in
+    rw rest at zeros
 
 -- m bits b written to the right of X
 module _ (m X b : ℕ) where

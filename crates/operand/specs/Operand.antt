@@ -19,8 +19,8 @@ isFractionCount n = leb leastBits n && leb n mostBits
 abbrev pub isNormalised : ℕ → ℕ → Bool
 isNormalised n X = leb (2 ^ n) X && ltb X (2 ^ (n + 1))
 
--- X with s of its n fraction bits: floor(X / 2^(n-s)) where it has more, X × 2^(s-n) where it has fewer. A difference stops at 0, so that one
--- of the two powers is 1
+-- X, which has n fraction bits, with s of them: floor(X / 2^(n-s)) where it has more, X × 2^(s-n) where it has fewer. A difference stops at 0,
+-- so that one of the two powers is 1
 abbrev pub cutTo : ℕ → ℕ → ℕ → ℕ
 cutTo s n X = X * 2 ^ (s - n) / 2 ^ (n - s)
 

@@ -10,7 +10,7 @@
 --    word is: zero-word-first, zero-word-wrong.
 -- 4. The reciprocal is that of Algorithm 2: step-t, with step-t-cut and step-t-padded, step-i, step-j, step-f, step-P, step-R, with line-P and
 --    differences. The call gives it from every image that was built (built-gives), and gives no other from any image (given-is-R, in Demand3).
--- 5. With three input guard bits: t has 2k + 3 fraction bits of the operand, three more than 2k (step-t); k of them go to i and k + 3 to f
+-- 5. With three input guard bits: t has 2k + 3 fraction bits, three more than 2k (step-t); k of them go to i and k + 3 to f
 --    (step-i, step-f).
 -- 6. Nodes that are read back from a built image are those that were put in: node-read-back.
 -- 7. An image passes the check exactly when all its words are right: check-passes-words; by its bytes: check-passes-bytes. One that was built

@@ -8,14 +8,14 @@
 -- 3. Whatever bytes the image holds: s is any list of numbers in given-is-R, given-low and given-high, and nothing is assumed of it.
 -- 4. Wherever the image came from: these three ask for the number 0 and for nothing else, so neither that the image was built here nor that it
 --    passed the check. A bound table takes any image too and answers as the plain call does: bound-reciprocal, in Demand1.
--- 5. Bits that are written to the right of X do not change R where X has 2k + 3 fraction bits or more: longer-reciprocal. Up to 63 in all they
---    do not change the answer from the same image, in one equation for number, place and value: longer-answer. Where X has fewer, the same
---    holds of bits of which those among the first 2k + 3 fraction bits are zero: padded-reciprocal, padded-answer; zeros alone change nothing
---    at any n: zeros-reciprocal, zeros-answer; and a written bit that is not zero can change R: written-bit-counts. All but the last are of
---    every X, normalised or not.
+-- 5. Bits that are written to the right of X do not change R where X has 2k + 3 fraction bits or more: longer-reciprocal. While there are at
+--    most 63 fraction bits in all, they do not change the answer from the same image, in one equation for number, place and value:
+--    longer-answer. Where X has fewer than 2k + 3, the same holds where those that come to stand among the first 2k + 3 are zero, of the answer
+--    from n = 1 on: padded-reciprocal, padded-answer. Zeros alone change R at no n, and the answer from n = 1 on neither: zeros-reciprocal,
+--    zeros-answer. A written bit that is not zero can change R: written-bit-counts. All but the last are of every X, normalised or not.
 --
 -- Beside the demand: R runs from 2^(2k) to 2^(2k+1) at every n: reciprocal-from, reciprocal-to. The least operand reaches the upper end at every
--- n, the greatest the lower from n = 2k + 3 on: reciprocal-of-least, reciprocal-of-greatest. The sizes of document 002's Lemma 1, and what fits
+-- n, the greatest the lower at the latest from n = 2k + 3 on: reciprocal-of-least, reciprocal-of-greatest. The sizes of document 002's Lemma 1, and what fits
 -- 64 bits: node-difference, fraction-below, product-below, first-product-fits, second-product-fits, product-sum-fits.
 --
 -- `reciprocal k n X` is R (Demand2 has its steps), and `reciprocalOutcome k s n X` is the answer of the call.
@@ -25,6 +25,7 @@ use Prim.Native.Nat.{ℕ, _+_, _-_, _*_, _^_, _≤_, _<_}
 use native.Mathlib.Omega.{arith}
 use Rattle.units.specs.Units.{ulpsInOne}
 use Rattle.nodes.specs.Nodes.{node}
+use Rattle.operand.proofs.Laws.{all-behind, zeros-before}
 use Rattle.interpolation.specs.Algorithm.{nodeNumber, fraction, cutProductSum}
 use Rattle.interpolation.specs.Reciprocal.{reciprocal}
 use Rattle.interpolation.specs.Calls.{reciprocalOutcome}
@@ -75,22 +76,22 @@ module _ (k : ℕ) (s : List ℕ) (n X : ℕ) (given : reciprocalOutcome k s n X
 module _ (k n m X b : ℕ) (enough : 2 * k + 3 ≤ n) (bits : b < 2 ^ m) where
   -- they do not change R
   pub longer-reciprocal : reciprocal k (n + m) (X * 2 ^ m + b) ≡ reciprocal k n X
-  longer-reciprocal = Longer.reciprocal-same k n m X b (Longer.all-behind k n m b enough bits)
+  longer-reciprocal = Longer.reciprocal-same k n m X b (all-behind (2 * k + 3) n m b enough bits)
 
   -- nor, up to 63 in all, the answer: number, place and value from the same image, whatever it holds and however long it is
   pub longer-answer : n + m ≤ 63 → (s : List ℕ) → reciprocalOutcome k s (n + m) (X * 2 ^ m + b) ≡ reciprocalOutcome k s n X
-  longer-answer = Longer.outcome-same k n m X b (Longer.all-behind k n m b enough bits) (omega (arith, enough))
+  longer-answer = Longer.outcome-same k n m X b (all-behind (2 * k + 3) n m b enough bits) (omega (arith, enough))
 
 -- Where X has fewer, so that some of the m bits come to stand among the first 2k + 3 fraction bits, the same holds where those are zero: b is
 -- below 2^(n+m-2k-3). The difference stops at 0, so that b is 0 where all m of them are among the first.
 module _ (k n m X b : ℕ) (few : n ≤ 2 * k + 3) (zeros : b < 2 ^ (n + m - (2 * k + 3))) where
   pub padded-reciprocal : reciprocal k (n + m) (X * 2 ^ m + b) ≡ reciprocal k n X
-  padded-reciprocal = Longer.reciprocal-same k n m X b (Longer.zeros-before k n m b few zeros)
+  padded-reciprocal = Longer.reciprocal-same k n m X b (zeros-before (2 * k + 3) n m b few zeros)
 
   pub padded-answer : 1 ≤ n → n + m ≤ 63 → (s : List ℕ) → reciprocalOutcome k s (n + m) (X * 2 ^ m + b) ≡ reciprocalOutcome k s n X
-  padded-answer = Longer.outcome-same k n m X b (Longer.zeros-before k n m b few zeros)
+  padded-answer = Longer.outcome-same k n m X b (zeros-before (2 * k + 3) n m b few zeros)
 
--- Zeros change nothing at any n: whoever pads an operand by himself gets what he gets without.
+-- Zeros do not change R at any n, nor the answer from n = 1 up to 63 fraction bits in all: a caller may pad an operand or leave it as it is.
 module _ (k n m X : ℕ) where
   pub zeros-reciprocal : reciprocal k (n + m) (X * 2 ^ m) ≡ reciprocal k n X
   zeros-reciprocal = Longer.reciprocal-zeros k n m X
@@ -110,7 +111,7 @@ module _ (k n X : ℕ) (least : 2 ^ n ≤ X) (below : X < 2 ^ (n + 1)) where
   pub reciprocal-to : reciprocal k n X ≤ 2 ^ (2 * k + 1)
   reciprocal-to = Reciprocals.reciprocal-most k n X (least, below)
 
--- Both ends are reached: by the least operand, and by the greatest where none of its bits lacks.
+-- Both ends are reached: by the least operand, and by the greatest where it has 2k + 3 fraction bits or more.
 module _ (k n X : ℕ) where
   pub reciprocal-of-least : X ≡ 2 ^ n → reciprocal k n X ≡ 2 ^ (2 * k + 1)
   reciprocal-of-least = Reciprocals.reciprocal-of-least k n X

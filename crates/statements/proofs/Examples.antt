@@ -8,7 +8,7 @@ use Rattle.bools.specs.Lowest.{lowest}
 use Rattle.decimal.specs.Decimal.{digits, decimal}
 use Rattle.lines.specs.Lines.{lineReading, field}
 use Rattle.table_text.specs.TableText.{precisionOf, line, lines, header, tableOf, tableText}
-use Rattle.statements.specs.Examples.{imageExamples, ImageHolds, reciprocalExamples, ReciprocalHolds, textExamples, TextHolds, Each, ExamplesHold}
+use Rattle.statements.specs.Examples.{imageExamples, ImageHolds, reciprocalExamples, ReciprocalHolds, refusedExamples, RefusedHolds, textExamples, TextHolds, Each, ExamplesHold}
 
 -- a row and those after it
 infixr 4 _also_
@@ -39,9 +39,13 @@ reciprocals-hold =
     also record { is-R = refl; given = refl; is-P = tt }
     also tt
 
+refusals-hold : Each RefusedHolds refusedExamples
+unfolding roundedUp wordAt fieldAt
+refusals-hold = refl also refl also refl also refl also tt
+
 texts-hold : Each TextHolds textExamples
 unfolding precisionOf lineReading digits decimal roundedUp field line lines header tableOf tableText
 texts-hold = refl also refl also refl also tt
 
 pub examples-hold : ExamplesHold
-examples-hold = record { images = images-hold; reciprocals = reciprocals-hold; texts = texts-hold }
+examples-hold = record { images = images-hold; reciprocals = reciprocals-hold; refusals = refusals-hold; texts = texts-hold }

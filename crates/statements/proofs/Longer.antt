@@ -1,6 +1,6 @@
 -- Bits written to the right of an operand.
 -- Assumes nothing.
-use mathlib.Core.Path.{_≡_, refl, sym, ap}
+use mathlib.Core.Path.{_≡_, refl, ap}
 use mathlib.Core.List.{List}
 use Prim.Native.Nat.{ℕ, _+_, _-_, _*_, _^_, _≤_, _<_}
 use native.Mathlib.Nat.{add-zero}
@@ -12,17 +12,6 @@ use Rattle.operand.proofs.Laws.{cut-longer, normalised-longer, in-count}
 use Rattle.interpolation.specs.Algorithm.{cutReciprocal}
 use Rattle.interpolation.specs.Reciprocal.{reciprocal}
 use Rattle.interpolation.specs.Calls.{reciprocalOutcome}
-
--- where none of the m bits b is among the first 2k + 3 fraction bits, and where those that are, are zero
-pub all-behind : (k n m b : ℕ) → 2 * k + 3 ≤ n → b < 2 ^ m → b < 2 ^ (m - (2 * k + 3 - n))
-all-behind k n m b enough bits =
-    let all : m ≡ m - (2 * k + 3 - n) = omega (arith, enough) in
-    rw (sym all) bits
-
-pub zeros-before : (k n m b : ℕ) → n ≤ 2 * k + 3 → b < 2 ^ (n + m - (2 * k + 3)) → b < 2 ^ (m - (2 * k + 3 - n))
-zeros-before k n m b few zeros =
-    let rest : n + m - (2 * k + 3) ≡ m - (2 * k + 3 - n) = omega (arith, few) in
-    rw rest at zeros
 
 -- of the m bits b, the first 2k + 3 - n are among the first 2k + 3 fraction bits, and these are zero
 module _ (k n m X b : ℕ) (h : b < 2 ^ (m - (2 * k + 3 - n))) where

@@ -83,6 +83,25 @@ pub record ReciprocalHolds (e : ReciprocalExample) : Type 0 where
   pub given : reciprocalOutcome (e .from .k) (e .from .bytes) (e .n) (e .X) ≡ served (e .R)
   pub is-P : Each (λ (P : ℕ). cutProductSum (e .from .k) (cutOperand (e .from .k) (e .n) (e .X)) ≡ P) (e .P)
 
+-- an operand that is turned back from an image above, and by which number
+pub record RefusedExample : Type 0 where
+  pub from : ImageExample
+  pub n : ℕ
+  pub X : ℕ
+  pub number : ℕ
+
+-- 2^64 is written out
+abbrev pub refusedExamples : List RefusedExample
+refusedExamples =
+    record { from = image2; n = 0; X = 1; number = 4 }
+    ∷ record { from = image2; n = 64; X = 18446744073709551616; number = 4 }
+    ∷ record { from = image2; n = 6; X = 63; number = 5 }
+    ∷ record { from = image2; n = 6; X = 128; number = 5 }
+    ∷ []
+
+abbrev pub RefusedHolds : RefusedExample → Type 0
+RefusedHolds e = reciprocalOutcome (e .from .k) (e .from .bytes) (e .n) (e .X) ≡ record { number = e .number; place = 0; value = 0 }
+
 -- an input and the text that is printed for it, as bytes
 pub record TextExample : Type 0 where
   pub input : List ℕ
@@ -118,4 +137,5 @@ TextHolds e = tableText (e .input) ≡ e .text
 pub record ExamplesHold : Type 0 where
   pub images : Each ImageHolds imageExamples
   pub reciprocals : Each ReciprocalHolds reciprocalExamples
+  pub refusals : Each RefusedHolds refusedExamples
   pub texts : Each TextHolds textExamples
