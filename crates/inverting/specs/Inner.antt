@@ -12,7 +12,7 @@ use Rattle.nodes.specs.Nodes.{numerator, leadingOne, decodeUnder}
 use Rattle.answers.specs.Refusal.{Outcome, served}
 use Rattle.interpolation.specs.Algorithm.{productSum, chopped}
 
--- k and the buffer keep their limits, and there are 2k + 3 fraction bits
+-- k and the buffer keep their limits, and bits is a number of 2k + 3 bits
 pub record IsCut (k : ℕ) (s : List ℕ) (bits : ℕ) : Type 0 where
   pub low : 1 ≤ k
   pub high : k ≤ 12

@@ -26,12 +26,12 @@ fn interpolated(
     Ulps(bits::high(sum, chopped_bits))
 }
 
-// The reciprocal of a cut operand by the words of both ends of its piece, which stand at the top of the window: they are judged, the lower
-// end first. The last k + 3 of its fraction bits are f. The precision comes and the answer goes as a plain number, which a register carries: R,
-// or 2^32 and the node of a wrong word.
-fn by_ends(precision: u32, j: u32, window: u64, fraction: u64) -> u64
+// The reciprocal of a cut operand by the words of both ends of its piece, which begins at node j; they stand at the top of the window, and are judged,
+// the lower end first. Of the kept fraction bits the last k + 3 are looked at, which are f. The precision comes and the answer goes as a plain
+// number, which a register carries: R, or 2^32 and the node of a wrong word.
+fn by_ends(precision: u32, j: u32, window: u64, kept: u64) -> u64
     requires { ⌜ IsPieceOf precision j ⌝ }
-    ensures { λ r. ⌜ outcomeOf r ≡ endsOutcome precision (bothIn precision window) j (fraction % 2 ^ (precision + 3)) ⌝ }
+    ensures { λ r. ⌜ outcomeOf r ≡ endsOutcome precision (bothIn precision window) j (kept % 2 ^ (precision + 3)) ⌝ }
 {
     let table = nodes::table(Precision(precision));
     let width = table.width;
@@ -51,44 +51,44 @@ fn by_ends(precision: u32, j: u32, window: u64, fraction: u64) -> u64
     interpolated(
         lower,
         upper,
-        bits::low(fraction, fraction_bits),
+        bits::low(kept, fraction_bits),
         fraction_bits,
         precision + 5,
     ).0
 }
 
 // The same, for each precision by code of its own, in which the compiler has constants to shift by.
-fn by_precision(precision: u32, j: u32, window: u64, fraction: u64) -> u64
+fn by_precision(precision: u32, j: u32, window: u64, kept: u64) -> u64
     requires { ⌜ IsPieceOf precision j ⌝ }
-    ensures { λ r. ⌜ outcomeOf r ≡ endsOutcome precision (bothIn precision window) j (fraction % 2 ^ (precision + 3)) ⌝ }
+    ensures { λ r. ⌜ outcomeOf r ≡ endsOutcome precision (bothIn precision window) j (kept % 2 ^ (precision + 3)) ⌝ }
 {
     match precision {
-        1 => by_ends(1, j, window, fraction),
-        2 => by_ends(2, j, window, fraction),
-        3 => by_ends(3, j, window, fraction),
-        4 => by_ends(4, j, window, fraction),
-        5 => by_ends(5, j, window, fraction),
-        6 => by_ends(6, j, window, fraction),
-        7 => by_ends(7, j, window, fraction),
-        8 => by_ends(8, j, window, fraction),
-        9 => by_ends(9, j, window, fraction),
-        10 => by_ends(10, j, window, fraction),
-        11 => by_ends(11, j, window, fraction),
-        12 => by_ends(12, j, window, fraction),
-        _ => by_ends(precision, j, window, fraction),
+        1 => by_ends(1, j, window, kept),
+        2 => by_ends(2, j, window, kept),
+        3 => by_ends(3, j, window, kept),
+        4 => by_ends(4, j, window, kept),
+        5 => by_ends(5, j, window, kept),
+        6 => by_ends(6, j, window, kept),
+        7 => by_ends(7, j, window, kept),
+        8 => by_ends(8, j, window, kept),
+        9 => by_ends(9, j, window, kept),
+        10 => by_ends(10, j, window, kept),
+        11 => by_ends(11, j, window, kept),
+        12 => by_ends(12, j, window, kept),
+        _ => by_ends(precision, j, window, kept),
     }
 }
 
-// The reciprocal of the cut operand with these 2k + 3 fraction bits, of which the first k are j, where k and the image keep their limits. The words at
-// both ends of its piece are had in one reading; behind the last word zero bits are read, which are judged to be the last node.
-fn of_cut(k: Precision, image: &[u8], fraction: u64) -> ReciprocalGiven
-    requires { ⌜ IsCut (k .0) (now image) fraction ⌝ }
-    ensures { λ r. ⌜ r ≡ reciprocalGiven (cutOutcome (k .0) (now (image .entry)) (cutOf (k .0) fraction)) ⌝ }
+// The reciprocal of the cut operand of which these 2k + 3 fraction bits were kept, where k and the image keep their limits; the first k of them are j.
+// The words at both ends of its piece are had in one reading; behind the last word zero bits are read, which are judged to be the last node.
+fn of_cut(k: Precision, image: &[u8], kept: u64) -> ReciprocalGiven
+    requires { ⌜ IsCut (k .0) (now image) kept ⌝ }
+    ensures { λ r. ⌜ r ≡ reciprocalGiven (cutOutcome (k .0) (now (image .entry)) (cutOf (k .0) kept)) ⌝ }
 {
     let width = k.word_width();
-    let j = bits::high(fraction, k.0 + 3) as u32;
+    let j = bits::high(kept, k.0 + 3) as u32;
     let window = packing::window(image::own_bytes(k, image), (j as u64) * width);
-    let code = by_precision(k.0, j, window, fraction);
+    let code = by_precision(k.0, j, window, kept);
     if code < 4294967296 {
         return ReciprocalGiven {
             number: 0,

@@ -123,15 +123,15 @@ cut-normalised k n X l h =
     let one-more : 2 * k + 3 + 1 ≡ 2 * k + 4 = omega arith in
     rw one-more at (cut-range (2 * k + 3) n X l h)
 
--- b stays below 2^e when d zeros are written to its right, where d is 0, or e is and so b
+-- b stays below 2^e when d zeros are written to its right, where d is 0, or where e is 0 and so b is
 none-lost : (b e d : ℕ) → b < 2 ^ e → (0 < d → e ≡ 0) → b * 2 ^ d < 2 ^ e
 none-lost b e zero h f = omega (arith, h)
 none-lost b e (suc d) h f =
     let none : b ≡ 0 = omega (arith, h, ap (λ (x : ℕ). 2 ^ x) (f (omega arith))) in
     omega (arith, ap (λ (x : ℕ). x * 2 ^ suc d) none, pow-pos e)
 
--- of m bits that are written to the right, s - n come to stand among the first s fraction bits: none from n = s on, and below it those that are
--- zero where b is below 2^(n+m-s)
+-- of m bits that are written to the right, the first s - n come to stand among the first s fraction bits, or all m where that is less. From n = s
+-- on there are none; below it they are zero where b is below 2^(n+m-s)
 pub all-behind : (s n m b : ℕ) → s ≤ n → b < 2 ^ m → b < 2 ^ (m - (s - n))
 all-behind s n m b enough bits =
     let all : m ≡ m - (s - n) = omega (arith, enough) in

@@ -12,6 +12,6 @@ use Rattle.operand.specs.Refusals.{fractionRefusal, operandRefusal}
 abbrev pub operandNumber : ℕ → ℕ → ℕ
 operandNumber n X = firstNumber (fractionRefusal n ∷ operandRefusal n X ∷ [])
 
--- the fraction bits of X with s of them, as a number; 0 where n or s is above 63
+-- the first s fraction bits of X, zeros where it has fewer, as a number; 0 where n or s is above 63
 abbrev pub cutFraction : ℕ → ℕ → ℕ → ℕ
 cutFraction s n X = cond (leb n mostBits && leb s mostBits) (cutTo s n X % 2 ^ s) 0

@@ -11,8 +11,8 @@
 -- 5. Bits that are written to the right of X do not change R where X has 2k + 3 fraction bits or more: longer-reciprocal. While there are at
 --    most 63 fraction bits in all, they do not change the answer from the same image, in one equation for number, place and value:
 --    longer-answer. Where X has fewer than 2k + 3, the same holds where those that come to stand among the first 2k + 3 are zero, of the answer
---    from n = 1 on: padded-reciprocal, padded-answer. Zeros alone change R at no n, and the answer from n = 1 on neither: zeros-reciprocal,
---    zeros-answer. A written bit that is not zero can change R: written-bit-counts. All but the last are of every X, normalised or not.
+--    from n = 1 on: padded-reciprocal, padded-answer. Zeros alone change R at no n, and from n = 1 up to 63 in all not the answer either:
+--    zeros-reciprocal, zeros-answer. A written bit that is not zero can change R: written-bit-counts. All but the last are of every X, normalised or not.
 --
 -- Beside the demand: R runs from 2^(2k) to 2^(2k+1) at every n: reciprocal-from, reciprocal-to. The least operand reaches the upper end at every
 -- n, the greatest the lower at the latest from n = 2k + 3 on: reciprocal-of-least, reciprocal-of-greatest. The sizes of document 002's Lemma 1, and what fits

@@ -1,4 +1,4 @@
--- The set examples of document 01 that are marked P, those of the requests, and the printed table, as literals, and what each says of the
+-- The set examples of document 01 that are marked P, ours for Q-1, and the printed table, as literals, and what each says of the
 -- definitions that the contracts cite.
 -- Assumes nothing.
 use mathlib.Core.Path.{_≡_}

@@ -36,10 +36,10 @@ abbrev j : tie.After-table → ℕ
 j c = c .before .args .j
 
 abbrev f : tie.After-table → ℕ
-f c = c .before .args .fraction % 2 ^ (k c + 3)
+f c = c .before .args .kept % 2 ^ (k c + 3)
 
 f-below : (c : tie.After-table) → f c < 2 ^ (k c + 3)
-f-below c = mod-lt (c .before .args .fraction) (pow-pos (k c + 3))
+f-below c = mod-lt (c .before .args .kept) (pow-pos (k c + 3))
 
 -- j is below 2^k, and so of 12 bits
 below : (c : tie.After-table) → j c < 2 ^ k c

@@ -9,9 +9,9 @@ use Rattle.inverting.proofs.by_precision.Tie as tie
 -- in the arm of the number i
 module _ (c : tie.Start) (i : ℕ) (same : c .args .precision ≡ i) where
   -- what is answered for the number is answered for the precision
-  answer : (code : ℕ) → outcomeOf code ≡ endsOutcome i (bothIn i (c .args .window)) (c .args .j) (c .args .fraction % 2 ^ (i + 3))
-      → outcomeOf code ≡ endsOutcome (c .args .precision) (bothIn (c .args .precision) (c .args .window)) (c .args .j) (c .args .fraction % 2 ^ (c .args .precision + 3))
-  answer code e = e ∙ ap (λ (k : ℕ). endsOutcome k (bothIn k (c .args .window)) (c .args .j) (c .args .fraction % 2 ^ (k + 3))) (sym same)
+  answer : (code : ℕ) → outcomeOf code ≡ endsOutcome i (bothIn i (c .args .window)) (c .args .j) (c .args .kept % 2 ^ (i + 3))
+      → outcomeOf code ≡ endsOutcome (c .args .precision) (bothIn (c .args .precision) (c .args .window)) (c .args .j) (c .args .kept % 2 ^ (c .args .precision + 3))
+  answer code e = e ∙ ap (λ (k : ℕ). endsOutcome k (bothIn k (c .args .window)) (c .args .j) (c .args .kept % 2 ^ (k + 3))) (sym same)
 
   -- and the piece of the precision is one of the number
   piece : IsPieceOf i (c .args .j)

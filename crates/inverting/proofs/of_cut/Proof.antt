@@ -34,7 +34,7 @@ abbrev s : tie.After-high → List ℕ
 s c = start c .args .image .now
 
 abbrev bits : tie.After-high → ℕ
-bits c = start c .args .fraction
+bits c = start c .args .kept
 
 abbrev t : tie.After-high → ℕ
 t c = cutOf (k c) (bits c)
