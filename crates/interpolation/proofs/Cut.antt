@@ -21,13 +21,7 @@ module _ (k t : ℕ) (least : 2 ^ (2 * k + 3) ≤ t) (most : t < 2 ^ (2 * k + 4)
   to : t < 2 * 2 ^ k * 2 ^ (k + 3)
   to = omega (arith, powers.most k 2 3, ap (λ (x : ℕ). 2 * 2 ^ k * x) (powers.width k 2 3))
 
-  -- i is from 2^k up to 2^(k+1), and j below 2^k
-  pub cut-index-least : 2 ^ k ≤ index k t
-  cut-index-least = pieces.index-least (2 ^ k) (2 ^ (k + 3)) t (pow-pos (k + 3)) from to
-
-  pub cut-index-most : index k t < 2 * 2 ^ k
-  cut-index-most = pieces.index-most (2 ^ k) (2 ^ (k + 3)) t (pow-pos (k + 3)) from to
-
+  -- i is 2^k and j, which is below 2^k
   pub cut-index : 2 ^ k + nodeNumber k t ≡ index k t
   cut-index = pieces.index-number (2 ^ k) (2 ^ (k + 3)) t (pow-pos (k + 3)) from to
 

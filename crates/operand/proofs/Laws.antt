@@ -67,7 +67,7 @@ module _ (s n : ℕ) where
   cut-short few X =
       ap (λ (e : ℕ). X * 2 ^ (s - n) / 2 ^ e) {x = n - s} {y = 0} (omega arith) ∙ div-one (X * 2 ^ (s - n))
 
-  -- in either case it is X × 2^(s-n) without a rest
+  -- in either case X × 2^(s-n) is it times 2^(n-s), and a rest
   pub cut-split : (X : ℕ) → cutTo s n X * 2 ^ (n - s) + X * 2 ^ (s - n) % 2 ^ (n - s) ≡ X * 2 ^ (s - n)
   cut-split X = split (X * 2 ^ (s - n)) (n - s)
 
