@@ -13,10 +13,14 @@ use Rattle.interpolation.proofs.Pieces as pieces
 use Rattle.interpolation.proofs.Powers as powers
 use Rattle.interpolation.proofs.Table.{sum-parts, sum-least}
 
+-- the leading one of a cut operand stands for 2^k pieces
+in-pieces : (k : ℕ) → 2 ^ (2 * k + 3) ≡ 2 ^ k * 2 ^ (k + 3)
+in-pieces k = omega (arith, powers.least k 2 3, ap (λ (x : ℕ). 2 ^ k * x) (powers.width k 2 3))
+
 -- a cut operand t has 2k + 3 fraction bits
 module _ (k t : ℕ) (least : 2 ^ (2 * k + 3) ≤ t) (most : t < 2 ^ (2 * k + 4)) where
   from : 2 ^ k * 2 ^ (k + 3) ≤ t
-  from = omega (arith, powers.least k 2 3, ap (λ (x : ℕ). 2 ^ k * x) (powers.width k 2 3))
+  from = omega (arith, in-pieces k)
 
   to : t < 2 * 2 ^ k * 2 ^ (k + 3)
   to = omega (arith, powers.most k 2 3, ap (λ (x : ℕ). 2 * 2 ^ k * x) (powers.width k 2 3))
@@ -30,18 +34,17 @@ module _ (k t : ℕ) (least : 2 ^ (2 * k + 3) ≤ t) (most : t < 2 ^ (2 * k + 4)
 
 -- a cut operand by its fraction bits: the first k of them are j, and the others are f
 module _ (k bits : ℕ) where
-  -- its leading one stands for 2^k pieces
-  in-pieces : cutOf k bits ≡ bits + 2 ^ k * 2 ^ (k + 3)
-  in-pieces = omega (arith, powers.least k 2 3, ap (λ (x : ℕ). 2 ^ k * x) (powers.width k 2 3))
+  behind-pieces : cutOf k bits ≡ bits + 2 ^ k * 2 ^ (k + 3)
+  behind-pieces = omega (arith, in-pieces k)
 
   pub bits-number : nodeNumber k (cutOf k bits) ≡ bits / 2 ^ (k + 3)
   bits-number =
       let i : index k (cutOf k bits) ≡ bits / 2 ^ (k + 3) + 2 ^ k =
-      ap (λ (t : ℕ). t / 2 ^ (k + 3)) in-pieces ∙ add-mul-div-right bits (2 ^ k) (pow-pos (k + 3)) in
+      ap (λ (t : ℕ). t / 2 ^ (k + 3)) behind-pieces ∙ add-mul-div-right bits (2 ^ k) (pow-pos (k + 3)) in
       omega (arith, i)
 
   pub bits-fraction : fraction k (cutOf k bits) ≡ bits % 2 ^ (k + 3)
-  bits-fraction = ap (λ (t : ℕ). t % 2 ^ (k + 3)) in-pieces ∙ add-mul-mod-self-right bits (2 ^ k) (2 ^ (k + 3))
+  bits-fraction = ap (λ (t : ℕ). t % 2 ^ (k + 3)) behind-pieces ∙ add-mul-mod-self-right bits (2 ^ k) (2 ^ (k + 3))
 
   -- and it is in range
   pub bits-least : 2 ^ (2 * k + 3) ≤ cutOf k bits

@@ -6,8 +6,7 @@ use Prim.Native.Nat.{ℕ, zero, suc, _+_, _-_, _*_, _/_, _%_, _^_, _≤_, _<_}
 use native.Mathlib.Nat.{mod-lt, mul-one, mul-assoc, div-one, div-eq-of-lt-le}
 use native.Mathlib.Omega.{arith}
 use lib.Dec.{eqb, leb, ltb}
-use lib.Pow.{pow-add, pow-pos, split, shl-shr, shr-shr, high}
-use lib.Arith.{mod-mul}
+use lib.Pow.{pow-add, pow-pos, split, shl-shr, shr-shr, high, field}
 use borrow.Author.Tests.{leb-true, ltb-true, eqb-true, le-leb, lt-ltb, eq-eqb}
 use Rattle.bools.proofs.Bools.{same}
 use Rattle.operand.specs.Operand.{leastBits, mostBits, isFractionCount, isNormalised, cutTo, cutOperand}
@@ -47,13 +46,6 @@ normalised-high n X =
     same (isNormalised n X) (eqb (X / 2 ^ n) 1)
     (λ t. let b = normalised-in n X t in eq-eqb (X / 2 ^ n) 1 (high-one n X (b .0) (b .1)))
     (λ t. let b = one-high n X (eqb-true (X / 2 ^ n) 1 t) in in-normalised n X (b .0) (b .1))
-
--- the s bits above the lowest d of a number
-field : (A s d : ℕ) → A % 2 ^ (s + d) / 2 ^ d ≡ A / 2 ^ d % 2 ^ s
-field A s d =
-    ap (λ (x : ℕ). A % x / 2 ^ d) (pow-add 2 s d)
-    ∙ ap (λ (x : ℕ). x / 2 ^ d) (mod-mul A (pow-pos s) (pow-pos d))
-    ∙ high (A / 2 ^ d % 2 ^ s) d (mod-lt A (pow-pos d))
 
 -- X, which has n fraction bits, with s of them, for any s
 module _ (s n : ℕ) where

@@ -34,17 +34,17 @@ pub fn refusal_number(n: u32, x: u64) -> u32
     0
 }
 
-// The first `kept` fraction bits of the operand x, which has n of them: what it has beyond is cut off, and what it lacks is padded with zeros.
-// They are shifted to the top of 64 bits, where the leading one falls off, and down again, so that neither side is a case of its own.
-// Where n or `kept` is above MOST_BITS it gives 0.
-pub fn cut(kept: u32, n: u32, x: u64) -> u64
-    ensures { λ r. ⌜ r ≡ cutFraction kept n x ⌝ }
+// The first s fraction bits of the operand x, which has n of them: what it has beyond is cut off, and what it lacks is padded with zeros. They are
+// shifted to the top of 64 bits, where the leading one falls off, and down again, so that neither side is a case of its own. Where n or s is
+// above MOST_BITS it gives 0.
+pub fn cut(s: u32, n: u32, x: u64) -> u64
+    ensures { λ r. ⌜ r ≡ cutFraction s n x ⌝ }
 {
     if MOST_BITS < n {
         return 0;
     }
-    if MOST_BITS < kept {
+    if MOST_BITS < s {
         return 0;
     }
-    bits::high(bits::padded(x, 64 - n), 64 - kept)
+    bits::high(bits::padded(x, 64 - n), 64 - s)
 }

@@ -41,7 +41,7 @@ reciprocals-hold =
 
 refusals-hold : Each RefusedHolds refusedExamples
 unfolding roundedUp wordAt fieldAt
-refusals-hold = refl also refl also refl also refl also tt
+refusals-hold = refl also refl also refl also refl also refl also tt
 
 texts-hold : Each TextHolds textExamples
 unfolding precisionOf lineReading digits decimal roundedUp field line lines header tableOf tableText

@@ -90,10 +90,11 @@ pub record RefusedExample : Type 0 where
   pub X : ℕ
   pub number : ℕ
 
--- 2^64 is written out
+-- 2^64 is written out; of 0 with no fraction bit both 4 and 5 apply
 abbrev pub refusedExamples : List RefusedExample
 refusedExamples =
     record { from = image2; n = 0; X = 1; number = 4 }
+    ∷ record { from = image2; n = 0; X = 0; number = 4 }
     ∷ record { from = image2; n = 64; X = 18446744073709551616; number = 4 }
     ∷ record { from = image2; n = 6; X = 63; number = 5 }
     ∷ record { from = image2; n = 6; X = 128; number = 5 }

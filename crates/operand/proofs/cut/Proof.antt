@@ -1,4 +1,4 @@
--- `operand::cut` meets its contract: a shift up by what n leaves of 64 bits, and one down by what the kept bits leave.
+-- `operand::cut` meets its contract: a shift up by what n leaves of 64 bits, and one down by what s leaves.
 -- Assumes nothing.
 use mathlib.Core.Path.{_≡_, refl, sym, ap, _∙_}
 use Prim.Native.Nat.{ℕ, _-_, _*_, _/_, _%_, _^_, _≤_}
@@ -15,7 +15,7 @@ returns c = rw (lt-leb (c .before .args .n) 63 (omega (arith, c .if1 .taken))) r
 returns-2 : tie.Need-returns-2
 returns-2 c =
     let a = c .before .before .args in
-    rw (le-leb (a .n) 63 (omega (arith, c .before .if1 .left)), lt-leb (a .kept) 63 (omega (arith, c .if2 .taken))) refl
+    rw (le-leb (a .n) 63 (omega (arith, c .before .if1 .left)), lt-leb (a .s) 63 (omega (arith, c .if2 .taken))) refl
 
 sub-padded : tie.Need-sub-padded
 sub-padded c = search needs
@@ -34,11 +34,11 @@ returns-3 c =
     let behind = c .before .before in
     let a = behind .before .before .args in
     let few : a .n ≤ 63 = omega (arith, behind .before .if1 .left) in
-    let kept : a .kept ≤ 63 = omega (arith, behind .if2 .left) in
+    let few-kept : a .s ≤ 63 = omega (arith, behind .if2 .left) in
     c .high .ensures
-    ∙ ap (λ (x : ℕ). x / 2 ^ (64 - a .kept)) (c .before .padded .ensures)
-    ∙ cut-shifted (a .kept) (a .n) 64 (a .x) (omega (arith, few)) (omega (arith, kept))
-    ∙ rw (le-leb (a .n) 63 few, le-leb (a .kept) 63 kept) refl
+    ∙ ap (λ (x : ℕ). x / 2 ^ (64 - a .s)) (c .before .padded .ensures)
+    ∙ cut-shifted (a .s) (a .n) 64 (a .x) (omega (arith, few)) (omega (arith, few-kept))
+    ∙ rw (le-leb (a .n) 63 few, le-leb (a .s) 63 few-kept) refl
 
 pub cut-spec : {M : Type 1} → statement M
 cut-spec =
