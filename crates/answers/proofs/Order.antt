@@ -27,10 +27,15 @@ abbrev pub numbered : List Refusal → Bool
 numbered [] = true
 numbered (r ∷ rs) = not (eqb (r .number) 0) && numbered rs
 
--- each refusal of the list has place 0, but for those of number n
-abbrev pub placedAt : ℕ → List Refusal → Bool
-placedAt n [] = true
-placedAt n (r ∷ rs) = (eqb (r .number) n || eqb (r .place) 0) && placedAt n rs
+-- each refusal of the list has place 0, but for those with a number among ms
+abbrev pub placedAt : List ℕ → List Refusal → Bool
+placedAt ms [] = true
+placedAt ms (r ∷ rs) = (isOneOf (r .number) ms || eqb (r .place) 0) && placedAt ms rs
+
+-- n is none of ms
+abbrev pub NoneOf : ℕ → List ℕ → Type 0
+NoneOf n [] = Unit {0}
+NoneOf n (m ∷ ms) = (n ≡ m → ⊥) × NoneOf n ms
 
 -- two numbers that a test tells apart are not equal
 pub apart : (m n : ℕ) → T (not (eqb m n)) → m ≡ n → ⊥
@@ -108,12 +113,15 @@ or-apart : (a b : Bool) → T (a || b) → (T a → ⊥) → T b
 or-apart true b t f = absurd (f tt)
 or-apart false b t f = t
 
--- the place is 0 but under the number at which refusals carry places
-pub placed : (n : ℕ) (rs : List Refusal) (v : ℕ) → T (placedAt n rs) → (outcome rs v .number ≡ n → ⊥) → outcome rs v .place ≡ 0
-placed n [] v t = λ f. refl
-placed n (r ∷ rs) v t =
-    chosen (λ o. (o .number ≡ n → ⊥) → o .place ≡ 0) (r .applies) (turnedBack r) (outcome rs v)
-    (λ f. eqb→eq (r .place) 0
-    (or-apart (eqb (r .number) n) (eqb (r .place) 0) (both (eqb (r .number) n || eqb (r .place) 0) (placedAt n rs) t .0)
-    (λ h. f (eqb→eq (r .number) n h))))
-    (placed n rs v (both (eqb (r .number) n || eqb (r .place) 0) (placedAt n rs) t .1))
+not-one-of : (n : ℕ) (ms : List ℕ) → NoneOf n ms → T (isOneOf n ms) → ⊥
+not-one-of n [] f t = t
+not-one-of n (m ∷ ms) f t = not-one-of n ms (f .1) (or-apart (eqb n m) (isOneOf n ms) t (λ h. f .0 (eqb→eq n m h)))
+
+-- the place is 0 but under the numbers at which refusals carry places
+pub placed : (ms : List ℕ) (rs : List Refusal) (v : ℕ) → T (placedAt ms rs) → NoneOf (outcome rs v .number) ms → outcome rs v .place ≡ 0
+placed ms [] v t = λ f. refl
+placed ms (r ∷ rs) v t =
+    let all = both (isOneOf (r .number) ms || eqb (r .place) 0) (placedAt ms rs) t in
+    chosen (λ o. NoneOf (o .number) ms → o .place ≡ 0) (r .applies) (turnedBack r) (outcome rs v)
+    (λ f. eqb→eq (r .place) 0 (or-apart (isOneOf (r .number) ms) (eqb (r .place) 0) (all .0) (not-one-of (r .number) ms f)))
+    (placed ms rs v (all .1))

@@ -2,18 +2,18 @@
 -- what is written is the whole bytes of the words taken in so far, and the bits that wait are the rest.
 -- Assumes nothing.
 use mathlib.Core.Path.{_≡_, refl, sym, _∙_, ap, ap₂}
-use mathlib.Core.List.{List, [], _∷_, _++_, append-assoc}
-use Prim.Native.Nat.{ℕ, suc, _+_, _-_, _*_, _/_, _%_, _^_, _≤_, _<_}
+use mathlib.Core.List.{List, [], _∷_, _++_}
+use Prim.Native.Nat.{ℕ, _+_, _-_, _*_, _/_, _%_, _^_, _≤_, _<_}
 use native.Mathlib.Nat.{mod-lt, lt-of-lt-of-le, mul-le-mul-right, mod-eq-of-lt, div-one, add-assoc, add-comm, add-zero, mul-one}
 use native.Mathlib.Numerals.{add-one}
 use native.Mathlib.Omega.{arith}
 use lib.Arith.{digits-lt}
-use lib.ListN.{length, drop, set, getD, length-append, length-drop}
+use lib.ListN.{length, drop, set, length-append, length-drop}
 use lib.Pow.{pow-add, pow-mono, pow-pos, shr-shr, field, mod-mod-pow}
-use lib.Seq.{set-at, drop-cons}
 use Rattle.packing.specs.Packing.{packed, toBytes, byteCount, fillBits, packedBytes}
 use Rattle.packing.proofs.Bytes.{length-toBytes}
 use Rattle.packing.proofs.Giving.{take-high, take-low, give-byte, give-last, last-small}
+use Rattle.tail.proofs.Writing.{write-next}
 
 -- of n words, j are taken in: `at` bytes of them are written over the buffer's first list, and `left` bits wait
 pub record Filling (w n : ℕ) (f : ℕ → ℕ) (before now : List ℕ) (waiting left at j : ℕ) : Type 0 where
@@ -28,14 +28,6 @@ pub record Filling (w n : ℕ) (f : ℕ → ℕ) (before now : List ℕ) (waitin
 pub start : (w n : ℕ) (f : ℕ → ℕ) (s : List ℕ) → byteCount w n ≤ length s → Filling w n f s s 0 0 0 0
 start w n f s h =
     record { taken = omega arith; room = h; place = omega arith; short = omega arith; bits = refl; bytes = refl }
-
--- one byte more behind those written
-write-next : (t before : List ℕ) (at b : ℕ) → length t ≡ at → at < length before → set (t ++ drop at before) at b ≡ (t ++ (b ∷ [])) ++ drop (at + 1) before
-write-next t before at b e h =
-    ap (λ (l : List ℕ). set (t ++ l) at b) (drop-cons before at 0 h)
-    ∙ set-at t (getD before at 0) (drop (suc at) before) b at e
-    ∙ sym (append-assoc t (b ∷ []) (drop (suc at) before))
-    ∙ ap (λ (i : ℕ). (t ++ (b ∷ [])) ++ drop i before) (sym (add-one at))
 
 module _ {w n : ℕ} {f : ℕ → ℕ} {before now : List ℕ} {waiting left at j : ℕ} (s : Filling w n f before now waiting left at j) where
   -- whole bytes have their places in the buffer

@@ -1,9 +1,10 @@
-// Building the image of a precision in a lent buffer.
+// Building the image of a precision in a lent buffer, with zeros to its end.
 ghost use mathlib.Core.Path.{_≡_};
 ghost use Prim.Native.Nat.{_+_, _*_, _/_, _%_, _^_, _≤_, _<_};
-ghost use lib.ListN.{length, set};
+ghost use mathlib.Core.List.{_++_};
+ghost use lib.ListN.{length, set, drop};
 ghost use Rattle.answers.specs.Answer.{done};
-ghost use Rattle.layout.specs.Layout.{lengthOf, builtOver};
+ghost use Rattle.layout.specs.Layout.{lengthOf, imageOf};
 ghost use Rattle.image.specs.Calls.{buildOutcome, buildLeaves};
 ghost use Rattle.image.specs.Inner.{layoutOf};
 use answers::Done;
@@ -45,12 +46,12 @@ fn put_four(image: &mut [u8], at: usize, four: u64)
     image[at + 3] = (four % 256) as u8;
 }
 
-// Writes the words of a table at the front of the buffer: numerator / (first + j) rounded up, its lowest bits, for each j.
+// Writes the words of a table at the front of the buffer: numerator / (first + j) rounded up, its lowest bits, for each j. Bytes past them stay.
 // The bits that wait for their bytes are kept beside the buffer, which is not read; those above them, which are written, are dropped when
 // the next word comes. Four bytes are written at once as soon as there are as many, and the last ones one by one.
 fn fill(image: &mut [u8], table: Quotients)
     requires { ⌜ (1 ≤ table .width) × (table .width ≤ 32) × (table .first + table .count < 2 ^ 32) × (lengthOf (layoutOf table) ≤ length (now image)) ⌝ }
-    ensures { λ r. ⌜ now (image .exit) ≡ builtOver (layoutOf table) (now (image .entry)) ⌝ }
+    ensures { λ r. ⌜ now (image .exit) ≡ imageOf (layoutOf table) ++ drop (lengthOf (layoutOf table)) (now (image .entry)) ⌝ }
 {
     let width = table.width;
     let count = table.count;
@@ -82,7 +83,7 @@ fn fill(image: &mut [u8], table: Quotients)
     }
 }
 
-// Writes the image of precision k at the front of the buffer; bytes past it, and every byte on a refusal, stay as found.
+// Writes the image of precision k at the front of the buffer, and zeros behind it to the end; on a refusal every byte stays as found.
 pub fn build(k: Precision, image: &mut [u8]) -> Done
     ensures { λ r. ⌜ r ≡ done (buildOutcome (k .0) (now (image .entry))) ⌝ }
     ensures { λ r. ⌜ now (image .exit) ≡ buildLeaves (k .0) (now (image .entry)) ⌝ }
@@ -95,7 +96,12 @@ pub fn build(k: Precision, image: &mut [u8]) -> Done
             value: 0,
         };
     }
-    fill(image, nodes::table(k));
+    let table = nodes::table(k);
+    fill(image, table);
+    tail::clear(
+        image,
+        packing::byte_count(table.width, table.count) as usize,
+    );
     Done {
         number: 0,
         place: 0,

@@ -1,4 +1,4 @@
-// Checking an image against the construction.
+// Checking an image against the construction, and what stands behind it.
 ghost use mathlib.Core.Path.{_≡_};
 ghost use Rattle.answers.specs.Answer.{done};
 ghost use Rattle.layout.specs.Layout.{firstWrong};
@@ -38,7 +38,8 @@ fn first_wrong(image: &[u8], table: Quotients) -> u32
     count
 }
 
-// Whether every word of the image is the construction's; where one is not, the lowest node of a wrong word is the place.
+// Whether every word of the image is the construction's and nothing but zeros stands behind the last one. Where a word is wrong, the place is the lowest
+// node of a wrong word; and where the words are right and a bit behind them is set, the lowest byte with such a bit.
 pub fn check(k: Precision, image: &[u8]) -> Done
     ensures { λ r. ⌜ r ≡ done (checkOutcome (k .0) (now (image .entry))) ⌝ }
 {
@@ -56,6 +57,14 @@ pub fn check(k: Precision, image: &[u8]) -> Done
         return Done {
             number: 6,
             place: place as u64,
+            value: 0,
+        };
+    }
+    let past = tail::first_one(image, (table.count as u64) * (table.width as u64));
+    if past < image.len() {
+        return Done {
+            number: 7,
+            place: past as u64,
             value: 0,
         };
     }

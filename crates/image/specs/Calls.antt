@@ -8,8 +8,8 @@ use lib.ListN.{length}
 use Rattle.precision.specs.Precision.{wordCount, wordWidth}
 use Rattle.packing.specs.Packing.{firstByte}
 use Rattle.answers.specs.Refusal.{Refusal, Outcome, outcome, someApplies}
-use Rattle.layout.specs.Layout.{builtOver, partOf}
-use Rattle.layout.specs.Refusals.{imageRefusal, wordRefusal}
+use Rattle.layout.specs.Layout.{romOf, partOf}
+use Rattle.layout.specs.Refusals.{imageRefusal, wordRefusal, tailRefusal}
 use Rattle.image.specs.Image.{plain, nodeOf}
 use Rattle.image.specs.Refusals.{nodeRefusal, limits}
 
@@ -21,13 +21,13 @@ buildRefusals k s = limits k (length s)
 abbrev pub buildOutcome : ℕ → List ℕ → Outcome
 buildOutcome k s = outcome (buildRefusals k s) 0
 
--- the buffer after the builder: as found where the call is turned back
+-- the buffer after the builder: a full ROM of its length, and as found where the call is turned back
 abbrev pub buildLeaves : ℕ → List ℕ → List ℕ
-buildLeaves k s = cond (eqb (buildOutcome k s .number) 0) (builtOver (plain k) s) s
+buildLeaves k s = cond (eqb (buildOutcome k s .number) 0) (romOf (plain k) (length s)) s
 
--- the refusals of the check, in checking order: 1, 2 and 6
+-- the refusals of the check, in checking order: 1, 2, 6 and 7
 abbrev pub checkRefusals : ℕ → List ℕ → List Refusal
-checkRefusals k s = limits k (length s) ++ imageRefusal (plain k) s ∷ []
+checkRefusals k s = limits k (length s) ++ imageRefusal (plain k) s ∷ tailRefusal (plain k) s ∷ []
 
 -- the check's answer; it gives 0
 abbrev pub checkOutcome : ℕ → List ℕ → Outcome

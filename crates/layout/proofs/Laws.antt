@@ -6,16 +6,15 @@ use mathlib.Core.List.{List, [], _++_, append-nil}
 use Prim.Native.Nat.{ℕ, _+_, _*_, _^_, _≤_, _<_}
 use native.Mathlib.Omega.{arith}
 use lib.Dec.{eqb, lit<}
-use lib.ListN.{length, take, drop, length-take, length-append, length-drop}
-use lib.Seq.{take-at, drop-at}
+use lib.ListN.{length, take, drop, length-take, length-drop}
 use borrow.Author.Tests.{eq-eqb, eqb-true, not-false}
 use Rattle.bools.proofs.Bools.{clash}
 use Rattle.bools.proofs.Lowest.{lowest-passes, lowest-before, lowest-none, lowest-agrees}
-use Rattle.packing.specs.Packing.{Bytes, firstByte, lastByte, spanBytes, bitAt, bitOfWord}
-use Rattle.packing.proofs.Image.{length-packedBytes, packed-word, word-of-front, words-front}
+use Rattle.packing.specs.Packing.{firstByte, lastByte, spanBytes, bitAt, bitOfWord}
+use Rattle.packing.proofs.Image.{length-packedBytes, packed-word}
 use Rattle.packing.proofs.Words.{word-within, word-take, span-within}
 use Rattle.packing.proofs.Bits.{bit-of-packed}
-use Rattle.layout.specs.Layout.{Layout, endOf, lengthOf, imageOf, builtOver, wordIn, isWrong, firstWrong, partOf}
+use Rattle.layout.specs.Layout.{Layout, endOf, lengthOf, imageOf, wordIn, isWrong, firstWrong, partOf}
 
 -- every word has the width of a word
 pub record Fits (t : Layout) : Type 0 where
@@ -38,16 +37,6 @@ module _ (t : Layout) where
   -- the image has the image length
   pub image-length : length (imageOf t) ≡ lengthOf t
   image-length = length-packedBytes (t .width) (t .word) (t .count)
-
-  -- a buffer that was built keeps its length, starts with the image, and ends as it did
-  pub built-length : (s : List ℕ) → lengthOf t ≤ length s → length (builtOver t s) ≡ length s
-  built-length s h = omega (arith, length-append (imageOf t) (drop (lengthOf t) s), image-length, length-drop (lengthOf t) s)
-
-  pub built-front : (s : List ℕ) → take (lengthOf t) (builtOver t s) ≡ imageOf t
-  built-front s = take-at (imageOf t) (drop (lengthOf t) s) (lengthOf t) image-length
-
-  pub built-rest : (s : List ℕ) → drop (lengthOf t) (builtOver t s) ≡ drop (lengthOf t) s
-  built-rest s = drop-at (imageOf t) (drop (lengthOf t) s) (lengthOf t) image-length
 
   -- a word ends before the image does
   pub word-inside : (j : ℕ) → j < t .count → j * t .width + t .width ≤ 8 * lengthOf t
@@ -84,13 +73,6 @@ module _ (t : Layout) (fits : Fits t) where
 
   pub own-wrong : (s : List ℕ) → firstWrong t (take (lengthOf t) s) ≡ firstWrong t s
   own-wrong s = wrong-agrees t (take (lengthOf t) s) s (own-word s)
-
-  -- a buffer that starts with the image has its words, and, where they take whole bytes, the other way round
-  pub front-right : (s : List ℕ) → take (lengthOf t) s ≡ imageOf t → (j : ℕ) → j < t .count → wordIn t s j ≡ t .word j
-  front-right s e j h = word-of-front (t .width) (t .word) (t .count) j s (fits .one) (fits .words) e h
-
-  pub right-front : Whole t → (s : List ℕ) → Bytes s → lengthOf t ≤ length s → ((j : ℕ) → j < t .count → wordIn t s j ≡ t .word j) → take (lengthOf t) s ≡ imageOf t
-  right-front whole s b h r = words-front (t .width) (t .word) (t .count) s (fits .one) b h (omega (arith, whole)) r
 
   -- the bytes of a word lie within a buffer that is long enough, and are as many as hold it
   module _ (s : List ℕ) (j : ℕ) (h : j < t .count) (long : lengthOf t ≤ length s) where

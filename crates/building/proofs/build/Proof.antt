@@ -1,11 +1,12 @@
--- `building::build` meets its contract: a broken limit leaves all as found, and otherwise the buffer is filled with the words of the nodes.
+-- `building::build` meets its contract: a broken limit leaves all as found, and otherwise the buffer is filled with the words of the nodes,
+-- and zeros behind them.
 -- Assumes nothing.
-use mathlib.Core.Path.{_≡_, sym, _∙_, ap}
+use mathlib.Core.Path.{_≡_, sym, _∙_, ap, ap₂}
 use mathlib.Core.Bool.{cond}
-use mathlib.Core.List.{List, []}
+use mathlib.Core.List.{List, [], _++_}
 use Prim.Native.Nat.{ℕ}
 use native.Mathlib.Omega.{arith}
-use lib.ListN.{length}
+use lib.ListN.{length, drop}
 use lib.Pow.{pow-mono}
 use lib.Dec.{eqb}
 use borrow.Author.Needs.{needs}
@@ -14,7 +15,9 @@ use Rattle.answers.specs.Refusal.{Outcome}
 use Rattle.answers.specs.Answer.{done}
 use Rattle.nodes.specs.Inner.{quotientsOf}
 use Rattle.nodes.specs.declared.Quotients.{Quotients}
-use Rattle.layout.specs.Layout.{builtOver}
+use Rattle.tail.specs.Tail.{clearedFrom}
+use Rattle.layout.specs.Layout.{imageOf, lengthOf, romOf}
+use Rattle.layout.proofs.Rom.{rom-written}
 use Rattle.image.specs.Image.{plain}
 use Rattle.image.specs.Inner.{refusalNumber, layoutOf}
 use Rattle.image.proofs.Limits.{ImageKept, limit-refuses, limit-passes, limit-kept}
@@ -23,7 +26,7 @@ use Rattle.building.proofs.build.Tie as tie
 
 -- what the builder leaves of s by its answer
 abbrev leaves : ℕ → List ℕ → Outcome → List ℕ
-leaves k s o = cond (eqb (o .number) 0) (builtOver (plain k) s) s
+leaves k s o = cond (eqb (o .number) 0) (romOf (plain k) (length s)) s
 
 refusal-number-requires : tie.Need-refusal-number-requires
 refusal-number-requires c κs = search needs
@@ -45,8 +48,8 @@ kept : (c : tie.Else1) → ImageKept (c .before .before .before .args .k .0) (c 
 kept c = limit-kept (c .before .before .before .args .k .0) (c .before .before .before .args .image .now) (limit c)
 
 -- so the table is that of k
-table : (c : tie.After-table) → c .table .result ≡ quotientsOf (c .before .before .before .before .before .args .k .0)
-table c = c .table .ensures ∙ kept (c .before .before) .numbers
+table : (c : tie.After-table) → c .table .result ≡ quotientsOf (c .before .before .before .before .args .k .0)
+table c = c .table .ensures ∙ kept (c .before) .numbers
 
 table-requires : tie.Need-table-requires
 table-requires c κs = search needs
@@ -54,24 +57,43 @@ table-requires c κs = search needs
 fill-requires : tie.Need-fill-requires
 fill-requires c κs =
     let ok = kept (c .before .before) in
-    rw (table c) (omega arith, omega (arith, ok .high), omega (arith, pow-mono (ok .high)), ok .long)
+    rw (table (c .before)) (omega arith, omega (arith, ok .high), omega (arith, pow-mono (ok .high)), ok .long)
+
+byte-count-requires : tie.Need-byte-count-requires
+byte-count-requires c κs = search needs
+
+clear-requires : tie.Need-clear-requires
+clear-requires c κs = search needs
 
 same-length : tie.Need-same-length
 same-length c = search needs
 
 returns-2 : tie.Need-returns-2
 returns-2 c =
-    let filled = c .before .before in
-    let at = filled .before .before .before in
+    let cleared = c .before .before in
+    let counted = cleared .before in
+    let filled = counted .before .before .before .before in
+    let tabled = filled .before .before in
+    let at = tabled .before in
     let k = at .before .before .before .args .k .0 in
     let s = at .before .before .before .args .image .now in (
       ap done (sym (limit-passes k s [] 0 (limit at))),
-      filled .fill .ensures
-          ∙ ap (λ (t : Quotients). builtOver (layoutOf t) s) (table (filled .before))
+      cleared .clear .ensures
+          ∙ ap₂ clearedFrom (counted .byte-count .ensures) (filled .fill .ensures)
+          ∙ ap (λ (t : Quotients). clearedFrom (lengthOf (layoutOf t)) (imageOf (layoutOf t) ++ drop (lengthOf (layoutOf t)) s)) (table tabled)
+          ∙ rom-written (plain k) s (kept at .long)
           ∙ sym (ap (leaves k s) (limit-passes k s [] 0 (limit at))),
     )
 
 pub build-spec : {M : Type 1} → statement M
 build-spec =
     tie.close
-    (tie.spec refusal-number-requires returns table-requires fill-requires same-length returns-2)
+    (tie.spec
+    refusal-number-requires
+    returns
+    table-requires
+    fill-requires
+    byte-count-requires
+    clear-requires
+    same-length
+    returns-2)

@@ -1,9 +1,10 @@
--- `checking::check` meets its contract: a broken limit, the lowest wrong word, or none.
+-- `checking::check` meets its contract: a broken limit, the lowest wrong word, the lowest byte with a one behind the words, or none of
+-- them.
 -- Assumes nothing.
 use mathlib.Core.Path.{_≡_, sym, _∙_, ap}
 use mathlib.Core.List.{List, [], _∷_}
 use Prim.Native.Nat.{ℕ, zero, suc, _+_, _*_, _%_, _^_, _≤_, _<_}
-use native.Mathlib.Nat.{not-suc-le-zero, pow-suc}
+use native.Mathlib.Nat.{not-suc-le-zero, pow-suc, mul-le-mul}
 use native.Mathlib.Omega.{arith}
 use lib.ListN.{length}
 use lib.Pow.{pow-mono}
@@ -15,8 +16,8 @@ use Rattle.nodes.proofs.Nodes.{decode-most, numerator-whole, word-judged}
 use Rattle.answers.specs.Refusal.{Refusal, outcome}
 use Rattle.answers.specs.Answer.{done}
 use Rattle.answers.proofs.Order.{applied, passed}
-use Rattle.layout.specs.Layout.{firstWrong}
-use Rattle.layout.specs.Refusals.{imageRefusal}
+use Rattle.layout.specs.Layout.{firstWrong, firstPast}
+use Rattle.layout.specs.Refusals.{imageRefusal, tailRefusal}
 use Rattle.image.specs.Image.{plain}
 use Rattle.image.specs.Calls.{checkOutcome}
 use Rattle.image.specs.Inner.{refusalNumber, ownBytes, layoutOf}
@@ -39,12 +40,15 @@ limit c = sym (c .before .refusal-number .ensures) ∙ c .if1 .left
 kept : (c : tie.Else1) → ImageKept (k c) (s c)
 kept c = limit-kept (k c) (s c) (limit c)
 
--- so the refusal for a wrong word decides, and the table is that of k
-abbrev refusal : tie.Else1 → Refusal
-refusal c = imageRefusal (plain (k c)) (s c)
+-- so the refusals for a wrong word and for a wrong tail decide, and the table is that of k
+abbrev wrong : tie.Else1 → Refusal
+wrong c = imageRefusal (plain (k c)) (s c)
 
-decides : (c : tie.Else1) → checkOutcome (k c) (s c) ≡ outcome (refusal c ∷ []) 0
-decides c = limit-passes (k c) (s c) (refusal c ∷ []) 0 (limit c)
+abbrev soiled : tie.Else1 → Refusal
+soiled c = tailRefusal (plain (k c)) (s c)
+
+decides : (c : tie.Else1) → checkOutcome (k c) (s c) ≡ outcome (wrong c ∷ soiled c ∷ []) 0
+decides c = limit-passes (k c) (s c) (wrong c ∷ soiled c ∷ []) 0 (limit c)
 
 table : (c : tie.After-table) → c .table .result ≡ quotientsOf (k (c .before))
 table c = c .table .ensures ∙ kept (c .before) .numbers
@@ -75,7 +79,7 @@ returns c =
     let k = c .before .before .before .args .k .0 in
     let s = c .before .before .before .args .image .now in
     let p = c .before .refusal-number .ensures in
-    rw p (ap done (sym (limit-refuses k s (imageRefusal (plain k) s ∷ []) 0 (λ e. c .if1 .taken (p ∙ e)))))
+    rw p (ap done (sym (limit-refuses k s (imageRefusal (plain k) s ∷ tailRefusal (plain k) s ∷ []) 0 (λ e. c .if1 .taken (p ∙ e)))))
 
 table-requires : tie.Need-table-requires
 table-requires c κs = search needs
@@ -100,16 +104,8 @@ found c =
 counted : (c : tie.After-table) → c .table .result .count ≡ 2 ^ k (c .before)
 counted c = ap (λ (t : Quotients). t .count) (table c)
 
-cast-t9 : tie.Need-cast-t9
-cast-t9 c = search needs
-
--- no word is wrong
-returns-3 : tie.Need-returns-3
-returns-3 c =
-    let place = c .before .before in
-    let at = place .before .before .before in
-    let none : 2 ^ k at ≤ firstWrong (plain (k at)) (s at) = omega (arith, found place, counted (place .before .before), c .if2 .left) in
-    ap done (sym (decides at ∙ passed (refusal at) [] 0 (le-ltb (firstWrong (plain (k at)) (s at)) (2 ^ k at) none)))
+cast-t10 : tie.Need-cast-t10
+cast-t10 c = search needs
 
 -- the lowest wrong word is the place
 returns-2 : tie.Need-returns-2
@@ -118,7 +114,57 @@ returns-2 c =
     let at = place .before .before .before in
     let less : firstWrong (plain (k at)) (s at) < 2 ^ k at = omega (arith, found place, counted (place .before .before), c .if2 .taken) in
     ap (λ (n : ℕ). done (record { number = 6; place = n; value = 0 })) (found place)
-    ∙ ap done (sym (decides at ∙ applied (refusal at) [] 0 (lt-ltb (firstWrong (plain (k at)) (s at)) (2 ^ k at) less)))
+    ∙ ap done (sym (decides at ∙ applied (wrong at) (soiled at ∷ []) 0 (lt-ltb (firstWrong (plain (k at)) (s at)) (2 ^ k at) less)))
+
+cast-first-one : tie.Need-cast-first-one
+cast-first-one c = search needs
+
+cast-first-one-2 : tie.Need-cast-first-one-2
+cast-first-one-2 c = search needs
+
+mul-first-one : tie.Need-mul-first-one
+mul-first-one c =
+    let at = c .before .before .before .before .before .before in
+    rw (table at) (omega (arith, mul-le-mul (pow-mono (kept (at .before) .high)) (wide (k (at .before)) (kept (at .before) .high))))
+  where
+    wide : (k : ℕ) → k ≤ 12 → 2 * k + 2 ≤ 26
+    wide k h = omega (arith, h)
+
+first-one-requires : tie.Need-first-one-requires
+first-one-requires c κs = search needs
+
+-- behind the test of the words all of them are right, so that the refusal for a wrong tail decides
+abbrev behind : tie.After-first-one → tie.Else1
+behind c = c .before .before .before .before .before .before .before .before
+
+words-pass : (c : tie.After-first-one) → checkOutcome (k (behind c)) (s (behind c)) ≡ outcome (soiled (behind c) ∷ []) 0
+words-pass c =
+    let tested = c .before .before .before in
+    let place = tested .before .before in
+    let at = behind c in
+    let none : 2 ^ k at ≤ firstWrong (plain (k at)) (s at) = omega (arith, found place, counted (place .before .before), tested .if2 .left) in
+    decides at ∙ passed (wrong at) (soiled at ∷ []) 0 (le-ltb (firstWrong (plain (k at)) (s at)) (2 ^ k at) none)
+
+-- the byte that is found is the lowest with a one behind the words
+stained : (c : tie.After-first-one) → c .first-one .result ≡ firstPast (plain (k (behind c))) (s (behind c))
+stained c =
+    let at = behind c in
+    c .first-one .ensures
+    ∙ ap (λ (t : Quotients). firstPast (layoutOf t) (s at)) (table (c .before .before .before .before .before .before .before))
+
+returns-3 : tie.Need-returns-3
+returns-3 c =
+    let at = behind (c .before) in
+    let less : firstPast (plain (k at)) (s at) < length (s at) = omega (arith, stained (c .before), c .if3 .taken) in
+    ap (λ (n : ℕ). done (record { number = 7; place = n; value = 0 })) (stained (c .before))
+    ∙ ap done (sym (words-pass (c .before) ∙ applied (soiled at) [] 0 (lt-ltb (firstPast (plain (k at)) (s at)) (length (s at)) less)))
+
+-- nothing is wrong
+returns-4 : tie.Need-returns-4
+returns-4 c =
+    let at = behind (c .before) in
+    let none : length (s at) ≤ firstPast (plain (k at)) (s at) = omega (arith, stained (c .before), c .if3 .left) in
+    ap done (sym (words-pass (c .before) ∙ passed (soiled at) [] 0 (le-ltb (firstPast (plain (k at)) (s at)) (length (s at)) none)))
 
 pub check-spec : {M : Type 1} → statement M
 check-spec =
@@ -129,6 +175,11 @@ check-spec =
     table-requires
     own-bytes-requires
     first-wrong-requires
-    cast-t9
+    cast-t10
     returns-2
-    returns-3)
+    cast-first-one
+    cast-first-one-2
+    mul-first-one
+    first-one-requires
+    returns-3
+    returns-4)

@@ -1,0 +1,50 @@
+-- `tail::joined` meets its contract. The loop's invariant: where the bytes joined so far make 0, each of them is 0. The measure is the number of
+-- bytes left.
+-- Assumes nothing.
+use mathlib.Core.Path.{_≡_}
+use Prim.Native.Nat.{ℕ, _+_, _-_, _≤_, _<_}
+use native.Mathlib.Omega.{arith}
+use lib.Bits.{bitOr, or-add-and, and-le-l, and-le-r}
+use lib.ListN.{getD}
+use borrow.Author.Count.{below-none, below-more}
+use Rattle.tail.proofs.joined.Statement.{statement}
+use Rattle.tail.proofs.joined.Tie as tie
+
+-- two numbers make 0 only where both are 0
+or-none : (a b : ℕ) → bitOr a b ≡ 0 → (a ≡ 0) × (b ≡ 0)
+or-none a b e = (omega (arith, e, or-add-and a b, and-le-r a b), omega (arith, e, or-add-and a b, and-le-l a b))
+
+abbrev Inv-loop : tie.InvT-loop
+Inv-loop s at all₀ i₀ all i = (i ≤ 64) × (all ≡ 0 → (j : ℕ) → j < i → getD s (at + j) 0 ≡ 0)
+
+abbrev μ-loop : tie.MeasureT-loop
+μ-loop s at all₀ i₀ all i = 64 - i
+
+loop-holds : tie.Need-loop-holds Inv-loop μ-loop
+loop-holds c = (omega arith, λ e. below-none _)
+
+add-all : tie.Need-add-all Inv-loop μ-loop
+add-all c = omega (arith, c .loop-test .taken, c .before .before .pre, c .before .before .good .0 .0)
+
+shared-slice-read-all : tie.Need-shared-slice-read-all Inv-loop μ-loop
+shared-slice-read-all c = omega (arith, c .before .loop-test .taken, c .before .before .before .pre)
+
+add-i : tie.Need-add-i Inv-loop μ-loop
+add-i c = omega (arith, c .before .loop-test .taken)
+
+loop-less : tie.Need-loop-less Inv-loop μ-loop
+loop-less c = omega (arith, c .before .loop-test .taken)
+
+loop-again : tie.Need-loop-again Inv-loop μ-loop
+loop-again c =
+    let turn = c .before .before .loop in
+    let a = c .before .before .before .args in (
+      omega (arith, c .before .loop-test .taken),
+      λ e. let none = or-none (turn .all) (getD (a .s .now) (a .at + turn .i) 0) e in below-more _ _ (turn .inv .1 (none .0)) (none .1),
+    )
+
+returns : tie.Need-returns Inv-loop μ-loop
+returns c e i h = c .before .loop .inv .1 e i (omega (arith, h, c .loop-test .left))
+
+pub joined-spec : {M : Type 1} → statement M
+joined-spec = tie.close (tie.spec Inv-loop μ-loop loop-holds add-all shared-slice-read-all add-i loop-less loop-again returns)
