@@ -43,7 +43,7 @@ rom-written t s h =
     (length-append (imageOf t) (drop (lengthOf t) s) ∙ omega (arith, image-length t, length-drop (lengthOf t) s, h))
 
 -- a byte of the tail of one
-rom-zero : (t : Layout) (n i : ℕ) → lengthOf t ≤ i → i < n → getD (romOf t n) i 0 ≡ 0
+pub rom-zero : (t : Layout) (n i : ℕ) → lengthOf t ≤ i → i < n → getD (romOf t n) i 0 ≡ 0
 rom-zero t n i h l =
     ap (λ (x : ℕ). getD (romOf t n) x 0) there
     ∙ getD-append-add (imageOf t) (zeros (n - lengthOf t)) (i - lengthOf t) 0

@@ -1,33 +1,36 @@
 -- What the builder leaves, and what is read of it.
 -- Assumes nothing.
 use mathlib.Core.Path.{_≡_, refl, sym, _∙_, ap}
+use mathlib.Core.Logic.{_↔_}
 use mathlib.Core.Bool.{Bool, true, false, cond}
 use mathlib.Core.List.{List, [], _∷_}
 use Prim.Native.Nat.{ℕ, _+_, _*_, _%_, _^_, _≤_, _<_}
-use native.Mathlib.Nat.{le-of-eq}
-use lib.ListN.{length, take, drop}
+use native.Mathlib.Omega.{arith}
+use lib.ListN.{length, take, getD}
 use lib.Dec.{eqb}
 use borrow.Author.Tests.{le-ltb, eqb-true, ne-eqb}
 use Rattle.precision.specs.Precision.{imageLength}
 use Rattle.nodes.specs.Nodes.{node}
-use Rattle.packing.specs.Packing.{bitAt, bitOfWord}
+use Rattle.packing.specs.Packing.{Bytes, bitAt, bitOfWord}
 use Rattle.answers.specs.Refusal.{Outcome, served}
-use Rattle.layout.specs.Layout.{builtOver, firstWrong}
-use Rattle.layout.specs.Refusals.{imageRefusal, wordRefusal}
+use Rattle.answers.proofs.Order.{passed}
+use Rattle.layout.specs.Layout.{romOf, firstWrong, firstPast}
+use Rattle.layout.specs.Refusals.{tailRefusal, wordRefusal}
 use Rattle.layout.proofs.Laws as layouts
-use Rattle.image.specs.Image.{plain, image, nodeOf}
+use Rattle.layout.proofs.Rom as roms
+use Rattle.image.specs.Image.{plain, image, wordOf, nodeOf}
 use Rattle.image.specs.Refusals.{nodeRefusal}
 use Rattle.image.specs.Calls.{buildOutcome, buildLeaves, checkOutcome, nodeOutcome}
-use Rattle.image.proofs.Laws.{plain-fits}
+use Rattle.image.proofs.Laws.{plain-fits, whole-bytes}
 use Rattle.image.proofs.Judging.{node-served}
 use Rattle.operand.specs.Operand.{cutOperand}
 use Rattle.interpolation.specs.Algorithm.{nodeNumber}
 use Rattle.interpolation.specs.Reciprocal.{reciprocal}
 use Rattle.interpolation.specs.Calls.{reciprocalOutcome}
-use Rattle.statements.specs.Terms.{IsPrecision, IsLongEnough, IsRightAt, IsFractionCount, IsNormalised}
+use Rattle.statements.specs.Terms.{IsPrecision, IsLongEnough, IsRightAt, IsTailZero, IsFractionCount, IsNormalised}
 use Rattle.statements.proofs.Iff.{read-right}
 use Rattle.statements.proofs.Nodes.{served-decodes}
-use Rattle.statements.proofs.Numbers.{kept-answer, later-number}
+use Rattle.statements.proofs.Numbers.{kept-answer, later-number, right-answer}
 use Rattle.statements.proofs.Reciprocals.{has-word, gives}
 
 -- what the builder leaves, by its answer
@@ -35,32 +38,32 @@ module _ (k : ℕ) (s : List ℕ) where
   pub left-as-found : (buildOutcome k s .number ≡ 0 → ⊥) → buildLeaves k s ≡ s
   left-as-found f = rw (ne-eqb (buildOutcome k s .number) 0 f)
 
-  by-image : (P : List ℕ → Type 0) → P s → (IsLongEnough k s → P (builtOver (plain k) s)) → P (buildLeaves k s)
+  by-image : (P : List ℕ → Type 0) → P s → (IsLongEnough k s → P (romOf (plain k) (length s))) → P (buildLeaves k s)
   by-image P found built = go (eqb (buildOutcome k s .number) 0) refl
     where
-      go : (b : Bool) → eqb (buildOutcome k s .number) 0 ≡ b → P (cond b (builtOver (plain k) s) s)
+      go : (b : Bool) → eqb (buildOutcome k s .number) 0 ≡ b → P (cond b (romOf (plain k) (length s)) s)
       go true e =
           built (later-number k s [] 0 0 tt tt .0 (eqb-true (buildOutcome k s .number) 0 e) .1 .0)
       go false e = found
 
-  pub built-rest : drop (imageLength k) (buildLeaves k s) ≡ drop (imageLength k) s
-  built-rest =
-      by-image (λ t. drop (imageLength k) t ≡ drop (imageLength k) s) refl (λ l. layouts.built-rest (plain k) s)
-
   pub built-as-long : length (buildLeaves k s) ≡ length s
-  built-as-long = by-image (λ t. length t ≡ length s) refl (layouts.built-length (plain k) s)
+  built-as-long = by-image (λ t. length t ≡ length s) refl (roms.rom-length (plain k) (length s))
 
   -- a precision and a long enough buffer are built
-  pub built : IsPrecision k → IsLongEnough k s → buildLeaves k s ≡ builtOver (plain k) s
-  built p l = ap (λ (o : Outcome). cond (eqb (o .number) 0) (builtOver (plain k) s) s) (kept-answer k s [] 0 p l)
+  pub built : IsPrecision k → IsLongEnough k s → buildLeaves k s ≡ romOf (plain k) (length s)
+  built p l = ap (λ (o : Outcome). cond (eqb (o .number) 0) (romOf (plain k) (length s)) s) (kept-answer k s [] 0 p l)
 
 module _ (k : ℕ) (s : List ℕ) (p : IsPrecision k) (l : IsLongEnough k s) where
   pub built-words : (j : ℕ) → j < 2 ^ k → IsRightAt k (buildLeaves k s) j
-  built-words j h = rw (built k s p l) (layouts.image-word (plain k) (plain-fits k) j (drop (imageLength k) s) h)
+  built-words j h = rw (built k s p l) (roms.rom-word (plain k) (plain-fits k) (length s) j h)
 
   -- the image stands at the front, whatever stood there before
   pub front : take (imageLength k) (buildLeaves k s) ≡ image k
-  front = rw (built k s p l) (layouts.built-front (plain k) s)
+  front = rw (built k s p l) (roms.rom-front (plain k) (length s))
+
+  -- and zeros behind it
+  pub tail-zero : IsTailZero k (buildLeaves k s)
+  tail-zero = rw (built k s p l) (λ i h m. roms.rom-zero (plain k) (length s) i h (omega (arith, m, roms.rom-length (plain k) (length s) l)))
 
   still-long : IsLongEnough k (buildLeaves k s)
   still-long = rw (built-as-long k s) l
@@ -75,10 +78,28 @@ module _ (k : ℕ) (s : List ℕ) (p : IsPrecision k) (l : IsLongEnough k s) whe
   built-gives n X c o =
       gives k n X (buildLeaves k s) p still-long c o (built-words (nodeNumber k (cutOperand k n X)) (has-word k n X o)) (built-words (nodeNumber k (cutOperand k n X) + 1))
 
+  -- no byte has a one behind the last word
+  nothing-past : length (buildLeaves k s) ≤ firstPast (plain k) (buildLeaves k s)
+  nothing-past =
+      rw (built k s p l) (omega (arith, roms.rom-past (plain k) (plain-fits k) (length s) l, roms.rom-length (plain k) (length s) l))
+
   pub built-checks : checkOutcome k (buildLeaves k s) ≡ served 0
   built-checks =
-      kept-answer k (buildLeaves k s) (imageRefusal (plain k) (buildLeaves k s) ∷ []) 0 p still-long
-      ∙ rw (le-ltb (firstWrong (plain k) (buildLeaves k s)) (2 ^ k) (le-of-eq (sym (layouts.all-right (plain k) (buildLeaves k s) built-words))))
+      right-answer k (buildLeaves k s) p still-long built-words
+      ∙ passed (tailRefusal (plain k) (buildLeaves k s)) [] 0 (le-ltb (firstPast (plain k) (buildLeaves k s)) (length (buildLeaves k s)) nothing-past)
+
+-- right words and a zero tail make a full ROM, and the other way round
+pub right-is-rom : (k : ℕ) (s : List ℕ) → IsPrecision k → Bytes s → IsLongEnough k s → (((j : ℕ) → j < 2 ^ k → IsRightAt k s j) × IsTailZero k s) ↔ (s ≡ romOf (plain k) (length s))
+right-is-rom k s p bytes l = (to, from)
+  where
+    to : ((j : ℕ) → j < 2 ^ k → IsRightAt k s j) × IsTailZero k s → s ≡ romOf (plain k) (length s)
+    to t = roms.right-rom (plain k) (plain-fits k) s bytes l (t .0) (roms.past-none (plain k) (whole-bytes k (p .0)) s (t .1))
+
+    from : s ≡ romOf (plain k) (length s) → ((j : ℕ) → j < 2 ^ k → IsRightAt k s j) × IsTailZero k s
+    from e = (
+      λ j h. ap (λ (u : List ℕ). wordOf k u j) e ∙ roms.rom-word (plain k) (plain-fits k) (length s) j h,
+      λ i h m. ap (λ (u : List ℕ). getD u i 0) e ∙ roms.rom-zero (plain k) (length s) i h m,
+    )
 
 -- bit b of word j of the image
 pub image-bits : (k j b : ℕ) → j < 2 ^ k → b < 2 * k + 2 → bitAt (image k) (j * (2 * k + 2) + b) ≡ bitOfWord (2 * k + 2) (node k j % 2 ^ (2 * k + 2)) b

@@ -6,28 +6,28 @@
 -- 2. With two table guard bits: a node is counted in table units, two bits finer than the ulps of R: ulp-in-table-units, one-in-both-units,
 --    first-node-is-one, exact-in-table-units.
 -- 3. The image is that of these nodes: its length length-eighth, image-bytes, image-whole, length-listed, no-length; its words built-word; its bits
---    image-bit. The builder leaves it at the front of the buffer: built-front. What a word of any bytes is: word-below, word-bit; what a zero
---    word is: zero-word-first, zero-word-wrong.
+--    image-bit. The builder leaves it at the front of the buffer, and zeros behind it: built-rom, built-front, built-tail. What a word of any
+--    bytes is: word-below, word-bit; what a zero word is: zero-word-first, zero-word-wrong.
 -- 4. The reciprocal is that of Algorithm 2: step-t, with step-t-cut and step-t-padded, step-i, step-j, step-f, step-P, step-R, with line-P and
 --    differences. The call gives it from every image that was built (built-gives), and gives no other from any image (given-is-R, in Demand3).
 -- 5. With three input guard bits: t has 2k + 3 fraction bits, three more than 2k (step-t); k of them go to i and k + 3 to f
 --    (step-i, step-f).
 -- 6. Nodes that are read back from a built image are those that were put in: node-read-back.
--- 7. An image passes the check exactly when all its words are right: check-passes-words; by its bytes: check-passes-bytes. One that was built
---    passes: built-passes.
--- 8. For all contents: what a buffer s holds, also before it is built, is any list of numbers. Only word-bit and check-passes-bytes ask that
---    these are bytes.
+-- 7. A buffer passes the check exactly when all words of its image are right and its tail is zero: check-passes-words; exactly when it is the
+--    image and then zeros: check-passes-rom. One that was built passes: built-passes.
+-- 8. For all contents: what a buffer s holds, also before it is built, is any list of numbers. Only word-bit, check-passes-words and
+--    check-passes-rom ask that these are bytes.
 --
 -- Which words and bytes a call reads is said by what its answer depends on (docs/DECISIONS.md, "Reading"): node-by-its-word, check-by-words,
--- reciprocal-by-words, reciprocal-by-lower-word, word-by-its-bytes; none past the image: check-by-image, node-by-image, reciprocal-by-image,
--- part-by-image, part-place-by-image. The reciprocal reads both words, whatever f is: lower-word-named, upper-word-named, upper-word-named-at-0.
+-- reciprocal-by-words, reciprocal-by-lower-word, word-by-its-bytes; none past the image: node-by-image, reciprocal-by-image, part-by-image,
+-- part-place-by-image, and, where a word is wrong, check-by-image. The reciprocal reads both words, whatever f is: lower-word-named, upper-word-named, upper-word-named-at-0.
 --
 -- Each theorem assumes no more than ranges of its numbers: that k is a precision or from 1 on, that n is from 1 to 63, or at most or at least
 -- 2k + 3, that X is normalised, that a buffer is long enough, that its elements are bytes; and, where two buffers are compared or a wrong word is
 -- named, which of their words or bytes agree or are wrong.
 use mathlib.Core.Path.{_≡_, refl, _∙_}
 use mathlib.Core.Logic.{_↔_}
-use mathlib.Core.List.{List}
+use mathlib.Core.List.{List, _++_}
 use Prim.Native.Nat.{ℕ, _+_, _-_, _*_, _/_, _%_, _^_, _≤_, _<_}
 use native.Mathlib.Omega.{arith}
 use lib.ListN.{length, take, getD}
@@ -39,19 +39,20 @@ use Rattle.nodes.specs.Nodes.{node, nodeOr0}
 use Rattle.nodes.proofs.Nodes.{node-first, node-last, node-above, node-below, node-falls, node-there, node-past}
 use Rattle.quotient.proofs.Laws.{reaches, least}
 use Rattle.packing.specs.Packing.{Bytes, bitAt, bitOfWord}
+use Rattle.tail.specs.Tail.{zeros}
 use Rattle.packing.proofs.Words.{word-lt}
 use Rattle.packing.proofs.Bits.{bit-of-word}
 use Rattle.answers.specs.Refusal.{served}
 use Rattle.image.specs.Image.{plain, image, wordOf}
 use Rattle.image.specs.Calls.{buildLeaves, checkOutcome, nodeOutcome, shownPart, shownFrom}
 use Rattle.layout.proofs.Laws as layouts
-use Rattle.image.proofs.Laws.{plain-fits, eighths, whole-bytes, eighth-of-bits}
+use Rattle.image.proofs.Laws.{eighths, eighth-of-bits}
 use Rattle.operand.specs.Operand.{cutOperand}
 use Rattle.operand.proofs.Laws.{cut-long, cut-short}
 use Rattle.interpolation.specs.Algorithm.{index, nodeNumber, fraction, cutProductSum}
 use Rattle.interpolation.specs.Reciprocal.{reciprocal}
 use Rattle.interpolation.specs.Calls.{reciprocalOutcome}
-use Rattle.statements.specs.Terms.{IsPrecision, IsLongEnough, IsRightAt, IsFractionCount, IsNormalised}
+use Rattle.statements.specs.Terms.{IsPrecision, IsLongEnough, IsRightAt, IsTailZero, IsFractionCount, IsNormalised}
 use Rattle.statements.proofs.Iff.{joined, failed, no-precision}
 use Rattle.statements.proofs.Demand1.{check-serves}
 use Rattle.statements.proofs.Built
@@ -176,9 +177,15 @@ module _ (k : ℕ) (one : 1 ≤ k) where
 
 -- What it holds.
 module _ (k : ℕ) (p : IsPrecision k) where
-  -- the builder writes it at the front of the buffer, whatever stood there before: it reads none of it
+  -- the builder leaves the image and zeros to the end of the buffer, whatever stood there before: of what it is lent, only the length counts
+  pub built-rom : (s : List ℕ) → IsLongEnough k s → buildLeaves k s ≡ image k ++ zeros (length s - imageLength k)
+  built-rom s l = Built.built k s p l
+
   pub built-front : (s : List ℕ) → IsLongEnough k s → take (imageLength k) (buildLeaves k s) ≡ image k
   built-front s l = Built.front k s p l
+
+  pub built-tail : (s : List ℕ) → IsLongEnough k s → IsTailZero k (buildLeaves k s)
+  built-tail s l = Built.tail-zero k s p l
 
   -- the words of a built image are c(j) modulo 2^(2k+2), whatever the buffer held before
   pub built-word : (s : List ℕ) → IsLongEnough k s → (j : ℕ) → j < 2 ^ k → wordOf k (buildLeaves k s) j ≡ node k j % 2 ^ (2 * k + 2)
@@ -200,13 +207,14 @@ module _ (k : ℕ) (p : IsPrecision k) where
   pub built-gives : (s : List ℕ) → IsLongEnough k s → (n X : ℕ) → IsFractionCount n → IsNormalised n X → reciprocalOutcome k (buildLeaves k s) n X ≡ served (reciprocal k n X)
   built-gives s l = Built.built-gives k s p l
 
-  -- an image passes the check exactly when each word is the construction's
-  pub check-passes-words : (s : List ℕ) → IsLongEnough k s → (checkOutcome k s .number ≡ 0) ↔ ((j : ℕ) → j < 2 ^ k → wordOf k s j ≡ node k j % 2 ^ (2 * k + 2))
-  check-passes-words s l = joined (check-serves k s) (λ t. t .2, λ t. (p, l, t))
+  -- a buffer passes the check exactly when each word is the construction's and each byte past the image is zero
+  pub check-passes-words : (s : List ℕ) → Bytes s → IsLongEnough k s
+      → (checkOutcome k s .number ≡ 0) ↔ (((j : ℕ) → j < 2 ^ k → wordOf k s j ≡ node k j % 2 ^ (2 * k + 2)) × ((i : ℕ) → imageLength k ≤ i → i < length s → getD s i 0 ≡ 0))
+  check-passes-words s b l = joined (check-serves k s b) (λ t. (t .2, t .3), λ t. (p, l, t .0, t .1))
 
-  -- and exactly when its first bytes are the image
-  pub check-passes-bytes : (s : List ℕ) → Bytes s → IsLongEnough k s → (checkOutcome k s .number ≡ 0) ↔ (take (imageLength k) s ≡ image k)
-  check-passes-bytes s b l = joined (check-passes-words s l) (layouts.right-front (plain k) (plain-fits k) (whole-bytes k (p .0)) s b l, layouts.front-right (plain k) (plain-fits k) s)
+  -- and exactly when it is the image and then zeros
+  pub check-passes-rom : (s : List ℕ) → Bytes s → IsLongEnough k s → (checkOutcome k s .number ≡ 0) ↔ (s ≡ image k ++ zeros (length s - imageLength k))
+  check-passes-rom s b l = joined (check-passes-words s b l) (Built.right-is-rom k s p b l)
 
 -- What an answer depends on.
 module _ (k : ℕ) (s s' : List ℕ) (l : IsLongEnough k s) (m : IsLongEnough k s') where
@@ -214,8 +222,8 @@ module _ (k : ℕ) (s s' : List ℕ) (l : IsLongEnough k s) (m : IsLongEnough k 
   pub node-by-its-word : (j : ℕ) → (j < 2 ^ k → wordOf k s j ≡ wordOf k s' j) → nodeOutcome k s j ≡ nodeOutcome k s' j
   node-by-its-word = Depends.node-same k s s' l m
 
-  -- the check's depends on the words of the image alone
-  pub check-by-words : ((j : ℕ) → j < 2 ^ k → wordOf k s j ≡ wordOf k s' j) → checkOutcome k s ≡ checkOutcome k s'
+  -- where a word is wrong, the check's depends on the words of the image alone, whatever the tail holds; where all are right, Demand1 has it
+  pub check-by-words : (j : ℕ) → j < 2 ^ k → (IsRightAt k s j → ⊥) → ((i : ℕ) → i < 2 ^ k → wordOf k s i ≡ wordOf k s' i) → checkOutcome k s ≡ checkOutcome k s'
   check-by-words = Depends.check-same k s s' l m
 
   -- the reciprocal's depends on the words of j and j + 1 alone, and where j + 1 is 2^k on that of j
@@ -250,10 +258,10 @@ module _ (k : ℕ) (s : List ℕ) (j : ℕ) where
 pub word-by-its-bytes : (k : ℕ) (s s' : List ℕ) (j : ℕ) → ((i : ℕ) → j * (2 * k + 2) / 8 ≤ i → i ≤ (j * (2 * k + 2) + (2 * k + 2) - 1) / 8 → getD s i 0 ≡ getD s' i 0) → wordOf k s j ≡ wordOf k s' j
 word-by-its-bytes k s s' j = Depends.word-same k s s' j
 
--- Bytes past the image are not read: two buffers with the same image at their front get the same answers, whatever follows it and
--- however long they are.
+-- A node, the reciprocal and the bytes of a word do not depend on the tail: two buffers with the same image at their front get the same
+-- answers, whatever follows it and however long they are. So does the check where a word is wrong.
 module _ (k : ℕ) (s s' : List ℕ) (p : IsPrecision k) (l : IsLongEnough k s) (m : IsLongEnough k s') (e : take (imageLength k) s ≡ take (imageLength k) s') where
-  pub check-by-image : checkOutcome k s ≡ checkOutcome k s'
+  pub check-by-image : (j : ℕ) → j < 2 ^ k → (IsRightAt k s j → ⊥) → checkOutcome k s ≡ checkOutcome k s'
   check-by-image = Depends.front-check k s s' p l m e
 
   pub node-by-image : (j : ℕ) → nodeOutcome k s j ≡ nodeOutcome k s' j

@@ -10,14 +10,16 @@ use native.Mathlib.Omega.{arith}
 use lib.ListN.{length, take, getD}
 use lib.Seq.{ext-getD, getD-take}
 use lib.Dec.{ltb, eqb}
-use borrow.Author.Tests.{le-ltb, eq-eqb, eqb-true, eqb-false}
+use borrow.Author.Tests.{lt-ltb, le-ltb, eq-eqb, eqb-true, eqb-false}
 use Rattle.bools.proofs.Bools.{below-or-not}
 use Rattle.precision.specs.Precision.{inRange, imageLength, wordCount, wordWidth}
 use Rattle.nodes.specs.Nodes.{storedWord, decode}
 use Rattle.packing.specs.Packing.{firstByte, lastByte}
 use Rattle.packing.proofs.Words.{word-local, span-within}
 use Rattle.answers.specs.Refusal.{Refusal, Outcome, outcome, turnedBack}
-use Rattle.layout.specs.Refusals.{imageRefusal, wordRefusal}
+use Rattle.answers.proofs.Order.{applied}
+use Rattle.layout.specs.Layout.{firstWrong}
+use Rattle.layout.specs.Refusals.{imageRefusal, wordRefusal, tailRefusal}
 use Rattle.layout.proofs.Laws.{own-word, wrong-agrees}
 use Rattle.image.specs.Image.{plain, wordOf, nodeOf}
 use Rattle.image.specs.Refusals.{precisionRefusal, nodeRefusal, limits}
@@ -33,7 +35,9 @@ use Rattle.interpolation.specs.Algorithm.{nodeNumber}
 use Rattle.interpolation.specs.Reciprocal.{readReciprocal}
 use Rattle.interpolation.specs.Calls.{cutRefusals, reciprocalOutcome}
 use Rattle.interpolation.specs.Inner.{cutOutcome}
-use Rattle.statements.specs.Terms.{IsPrecision, IsLongEnough}
+use Rattle.statements.specs.Terms.{IsPrecision, IsLongEnough, IsRightAt}
+use Rattle.statements.proofs.Iff.{is-below, some-wrong}
+use Rattle.statements.proofs.Numbers.{of-words}
 use Rattle.statements.proofs.Reciprocals.{has-word}
 use Rattle.statements.proofs.Parts.{shown-empty, shown-length, shown-bytes}
 
@@ -96,11 +100,15 @@ module _ (k : ℕ) (s t : List ℕ) (l : IsLongEnough k s) (m : IsLongEnough k t
           ∙ sym (operand-passes n X (words t) (value t) none)
       by false z = operand-refuses n X (words s) (value s) (eqb-false (operandNumber n X) 0 z) ∙ sym (operand-refuses n X (words t) (value t) (eqb-false (operandNumber n X) 0 z))
 
-  pub check-same : ((j : ℕ) → j < 2 ^ k → wordOf k s j ≡ wordOf k t j) → checkOutcome k s ≡ checkOutcome k t
-  check-same e =
-      rest-same (imageRefusal (plain k) s ∷ []) (imageRefusal (plain k) t ∷ []) 0 0
-      (ap (λ (f : ℕ). outcome (record { applies = ltb f (wordCount k); number = 6; place = f } ∷ []) 0)
-      (wrong-agrees (plain k) s t e))
+  -- the check where a word is wrong
+  pub check-same : (j : ℕ) → j < 2 ^ k → (IsRightAt k s j → ⊥) → ((i : ℕ) → i < 2 ^ k → wordOf k s i ≡ wordOf k t i) → checkOutcome k s ≡ checkOutcome k t
+  check-same j h f e =
+      let agree : firstWrong (plain k) s ≡ firstWrong (plain k) t = wrong-agrees (plain k) s t e in
+      let wrong : firstWrong (plain k) s < 2 ^ k = is-below (firstWrong (plain k) s) (2 ^ k) .0 (some-wrong k s .1 (j, h, f)) in
+      rest-same (of-words k s) (of-words k t) 0 0
+      (applied (imageRefusal (plain k) s) (tailRefusal (plain k) s ∷ []) 0 (lt-ltb (firstWrong (plain k) s) (2 ^ k) wrong)
+      ∙ ap (λ (n : ℕ). record { number = 6; place = n; value = 0 }) agree
+      ∙ sym (applied (imageRefusal (plain k) t) (tailRefusal (plain k) t ∷ []) 0 (lt-ltb (firstWrong (plain k) t) (2 ^ k) (omega (arith, wrong, agree)))))
 
 -- a word by its bytes
 pub word-same : (k : ℕ) (s t : List ℕ) (j : ℕ) → ((i : ℕ) → firstByte (wordWidth k) j ≤ i → i ≤ lastByte (wordWidth k) j → getD s i 0 ≡ getD t i 0) → wordOf k s j ≡ wordOf k t j
@@ -119,8 +127,8 @@ module _ (k : ℕ) (s t : List ℕ) (p : IsPrecision k) (l : IsLongEnough k s) (
   front-reciprocal n X =
       reciprocal-same k s t l m n X (front-word (nodeNumber k (cutOperand k n X))) (front-word (nodeNumber k (cutOperand k n X) + 1))
 
-  pub front-check : checkOutcome k s ≡ checkOutcome k t
-  front-check = check-same k s t l m front-word
+  pub front-check : (j : ℕ) → j < 2 ^ k → (IsRightAt k s j → ⊥) → checkOutcome k s ≡ checkOutcome k t
+  front-check j h f = check-same k s t l m j h f front-word
 
   front-byte : (i : ℕ) → i < imageLength k → getD s i 0 ≡ getD t i 0
   front-byte i h =

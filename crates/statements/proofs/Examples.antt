@@ -1,5 +1,5 @@
--- The set examples of document 01 that are marked P, ours for Q-1, and the printed table hold of the definitions that the contracts
--- cite: one statement for all tables, by computation.
+-- The set examples of document 01 that are marked P, those of document 02 for Q-2, ours for Q-1, and the printed table hold of the
+-- definitions that the contracts cite: one statement for all tables, by computation.
 -- Assumes nothing.
 use mathlib.Core.Path.{refl}
 use Rattle.quotient.specs.Quotient.{roundedUp}
@@ -8,7 +8,7 @@ use Rattle.bools.specs.Lowest.{lowest}
 use Rattle.decimal.specs.Decimal.{digits, decimal}
 use Rattle.lines.specs.Lines.{lineReading, field}
 use Rattle.table_text.specs.TableText.{precisionOf, line, lines, header, tableOf, tableText}
-use Rattle.statements.specs.Examples.{imageExamples, ImageHolds, reciprocalExamples, ReciprocalHolds, refusedExamples, RefusedHolds, textExamples, TextHolds, Each, ExamplesHold}
+use Rattle.statements.specs.Examples.{imageExamples, ImageHolds, romExamples, RomHolds, faultExamples, FaultHolds, reciprocalExamples, ReciprocalHolds, refusedExamples, RefusedHolds, textExamples, TextHolds, Each, ExamplesHold}
 
 -- a row and those after it
 infixr 4 _also_
@@ -22,6 +22,14 @@ images-hold =
     also record { answered = refl; built = refl; read = refl; passes = refl }
     also record { answered = refl; built = refl; read = refl; passes = refl }
     also tt
+
+roms-hold : Each RomHolds romExamples
+unfolding roundedUp wordAt fieldAt lowest
+roms-hold = record { answered = refl; built = refl; passes = refl } also tt
+
+faults-hold : Each FaultHolds faultExamples
+unfolding roundedUp wordAt fieldAt lowest
+faults-hold = refl also refl also tt
 
 reciprocals-hold : Each ReciprocalHolds reciprocalExamples
 unfolding roundedUp wordAt fieldAt
@@ -48,4 +56,4 @@ unfolding precisionOf lineReading digits decimal roundedUp field line lines head
 texts-hold = refl also refl also refl also tt
 
 pub examples-hold : ExamplesHold
-examples-hold = record { images = images-hold; reciprocals = reciprocals-hold; refusals = refusals-hold; texts = texts-hold }
+examples-hold = record { images = images-hold; roms = roms-hold; faults = faults-hold; reciprocals = reciprocals-hold; refusals = refusals-hold; texts = texts-hold }

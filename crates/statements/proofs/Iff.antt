@@ -6,18 +6,22 @@ use mathlib.Core.Bool.{Bool, true, false, not, _&&_}
 use mathlib.Core.List.{List}
 use Prim.Native.Nat.{ℕ, _^_, _≤_, _<_}
 use native.Mathlib.Omega.{arith}
+use lib.ListN.{length}
 use lib.Dec.{T, ltb, ltb→lt, lt→ltb, nltb→le, not-T}
 use lib.Arith.{le→nltb}
 use borrow.Author.Tests.{lt-ltb}
-use Rattle.bools.proofs.Bools.{clash}
+use Rattle.bools.proofs.Bools.{clash, below-or-not}
+use Rattle.packing.specs.Packing.{Bytes}
 use Rattle.precision.specs.Precision.{inRange, wordCount}
 use Rattle.precision.proofs.Range.{in-range, range-in}
-use Rattle.layout.specs.Layout.{isWrong, firstWrong}
+use Rattle.layout.specs.Layout.{isWrong, firstWrong, firstPast}
 use Rattle.layout.proofs.Laws.{not-wrong, right-not-wrong, all-right, wrong-there, right-before}
+use Rattle.layout.proofs.Rom.{past-zero, past-there, past-none}
 use Rattle.image.specs.Image.{plain}
+use Rattle.image.proofs.Laws.{whole-bytes}
 use Rattle.operand.specs.Operand.{isFractionCount, isNormalised}
 use Rattle.operand.proofs.Laws.{count-in, in-count, normalised-in, in-normalised}
-use Rattle.statements.specs.Terms.{IsPrecision, IsRightAt, IsFractionCount, IsNormalised}
+use Rattle.statements.specs.Terms.{IsPrecision, IsRightAt, IsSetPast, IsTailZero, IsFractionCount, IsNormalised}
 
 pub joined : {A B C : Type 0} → A ↔ B → B ↔ C → A ↔ C
 joined f g = (λ a. g .0 (f .0 a), λ c. f .1 (g .1 c))
@@ -159,3 +163,30 @@ none-wrong k s = (to, from)
 
     from : ((j : ℕ) → j < 2 ^ k → IsRightAt k s j) → T (not (ltb (firstWrong (plain k) s) (wordCount k)))
     from f = le→nltb (firstWrong (plain k) s) (wordCount k) (omega (arith, all-right (plain k) s f))
+
+-- some byte of the tail is set, and none is
+module _ (k : ℕ) (s : List ℕ) (p : IsPrecision k) (bytes : Bytes s) where
+  pub some-past : T (ltb (firstPast (plain k) s) (length s)) ↔ ((i : ℕ) × IsSetPast k s i)
+  some-past = (to, from)
+    where
+      to : T (ltb (firstPast (plain k) s) (length s)) → (i : ℕ) × IsSetPast k s i
+      to t =
+          let h = ltb→lt (firstPast (plain k) s) (length s) t in
+          let there = past-there (plain k) (whole-bytes k (p .0)) s h in
+          (firstPast (plain k) s, (there .0, h, there .1))
+
+      from : (i : ℕ) × IsSetPast k s i → T (ltb (firstPast (plain k) s) (length s))
+      from w =
+          let i = w .1 in
+          lt→ltb (firstPast (plain k) s) (length s)
+          (⊎-elim (λ l. l) (λ g. absurd (i .2 (past-zero (plain k) (whole-bytes k (p .0)) s bytes (w .0) (i .0) (omega (arith, i .1, g)))))
+          (below-or-not (firstPast (plain k) s) (length s)))
+
+  pub none-past : T (not (ltb (firstPast (plain k) s) (length s))) ↔ IsTailZero k s
+  none-past = (to, from)
+    where
+      to : T (not (ltb (firstPast (plain k) s) (length s))) → IsTailZero k s
+      to t i h l = past-zero (plain k) (whole-bytes k (p .0)) s bytes i h (omega (arith, l, nltb→le (firstPast (plain k) s) (length s) t))
+
+      from : IsTailZero k s → T (not (ltb (firstPast (plain k) s) (length s)))
+      from z = le→nltb (firstPast (plain k) s) (length s) (omega (arith, past-none (plain k) (whole-bytes k (p .0)) s z))

@@ -1,4 +1,4 @@
--- The set examples of document 01 that are marked P, ours for Q-1, and the printed table, as literals, and what each says of the
+-- The set examples of document 01 that are marked P, those of document 02 for Q-2, ours for Q-1, and the printed table, as literals, and what each says of the
 -- definitions that the contracts cite.
 -- Assumes nothing.
 use mathlib.Core.Path.{_≡_}
@@ -52,6 +52,37 @@ pub record ImageHolds (e : ImageExample) : Type 0 where
   pub built : buildLeaves (e .k) (replicate (length (e .bytes)) 255) ≡ e .bytes
   pub read : readNodes (e .k) (e .bytes) (length (e .nodes)) ≡ map served (e .nodes)
   pub passes : checkOutcome (e .k) (e .bytes) ≡ served 0
+
+-- an image above in a longer buffer
+pub record RomExample : Type 0 where
+  pub from : ImageExample
+  pub bytes : List ℕ
+
+abbrev pub romExamples : List RomExample
+romExamples = record { from = image2; bytes = 0x02 ∷ 0x75 ∷ 0x8A ∷ 0x00 ∷ [] } ∷ []
+
+-- a buffer of as many bytes, all of them 255, is served and built to it; it passes the check
+pub record RomHolds (e : RomExample) : Type 0 where
+  pub answered : buildOutcome (e .from .k) (replicate (length (e .bytes)) 255) ≡ served 0
+  pub built : buildLeaves (e .from .k) (replicate (length (e .bytes)) 255) ≡ e .bytes
+  pub passes : checkOutcome (e .from .k) (e .bytes) ≡ served 0
+
+-- a buffer that the check turns back, by which number and at which place
+pub record FaultExample : Type 0 where
+  pub k : ℕ
+  pub bytes : List ℕ
+  pub number : ℕ
+  pub place : ℕ
+
+-- of the second both 6 and 7 apply
+abbrev pub faultExamples : List FaultExample
+faultExamples =
+    record { k = 2; bytes = 0x02 ∷ 0x75 ∷ 0x8A ∷ 0x00 ∷ 0x01 ∷ []; number = 7; place = 4 }
+    ∷ record { k = 2; bytes = 0x02 ∷ 0x75 ∷ 0x8B ∷ 0x01 ∷ []; number = 6; place = 3 }
+    ∷ []
+
+abbrev pub FaultHolds : FaultExample → Type 0
+FaultHolds e = checkOutcome (e .k) (e .bytes) ≡ record { number = e .number; place = e .place; value = 0 }
 
 -- the image above whose precision and bytes are used, the operand X with n fraction bits, P where document 01 gives it, and R
 pub record ReciprocalExample : Type 0 where
@@ -137,6 +168,8 @@ TextHolds e = tableText (e .input) ≡ e .text
 -- every example of each table holds
 pub record ExamplesHold : Type 0 where
   pub images : Each ImageHolds imageExamples
+  pub roms : Each RomHolds romExamples
+  pub faults : Each FaultHolds faultExamples
   pub reciprocals : Each ReciprocalHolds reciprocalExamples
   pub refusals : Each RefusedHolds refusedExamples
   pub texts : Each TextHolds textExamples

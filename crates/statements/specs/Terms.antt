@@ -3,7 +3,7 @@
 use mathlib.Core.Path.{_≡_}
 use mathlib.Core.List.{List}
 use Prim.Native.Nat.{ℕ, _+_, _*_, _%_, _^_, _≤_, _<_}
-use lib.ListN.{length}
+use lib.ListN.{length, getD}
 use Rattle.precision.specs.Precision.{imageLength}
 use Rattle.nodes.specs.Nodes.{node}
 use Rattle.image.specs.Image.{wordOf}
@@ -19,6 +19,14 @@ IsLongEnough k s = imageLength k ≤ length s
 -- the word that a buffer holds for node j is the construction's: c(j) modulo 2^(2k+2)
 abbrev pub IsRightAt : ℕ → List ℕ → ℕ → Type 0
 IsRightAt k s j = wordOf k s j ≡ node k j % 2 ^ (2 * k + 2)
+
+-- byte i of a buffer stands past the image and is not zero
+abbrev pub IsSetPast : ℕ → List ℕ → ℕ → Type 0
+IsSetPast k s i = (imageLength k ≤ i) × (i < length s) × (getD s i 0 ≡ 0 → ⊥)
+
+-- the tail of a buffer is zero: each of its bytes past the image
+abbrev pub IsTailZero : ℕ → List ℕ → Type 0
+IsTailZero k s = (i : ℕ) → imageLength k ≤ i → i < length s → getD s i 0 ≡ 0
 
 -- n is from 1 to 63
 abbrev pub IsFractionCount : ℕ → Type 0
