@@ -1,3 +1,4 @@
+pub mod Checks
 pub mod Judging
 pub mod Laws
 pub mod Limits

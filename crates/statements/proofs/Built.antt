@@ -5,23 +5,25 @@ use mathlib.Core.Logic.{_↔_}
 use mathlib.Core.Bool.{Bool, true, false, cond}
 use mathlib.Core.List.{List, [], _∷_}
 use Prim.Native.Nat.{ℕ, _+_, _*_, _%_, _^_, _≤_, _<_}
+use native.Mathlib.Nat.{le-of-eq}
 use native.Mathlib.Omega.{arith}
 use lib.ListN.{length, take, getD}
 use lib.Dec.{eqb}
-use borrow.Author.Tests.{le-ltb, eqb-true, ne-eqb}
+use borrow.Author.Tests.{eqb-true, ne-eqb}
 use Rattle.precision.specs.Precision.{imageLength}
 use Rattle.nodes.specs.Nodes.{node}
 use Rattle.packing.specs.Packing.{Bytes, bitAt, bitOfWord}
 use Rattle.answers.specs.Refusal.{Outcome, served}
-use Rattle.answers.proofs.Order.{passed}
-use Rattle.layout.specs.Layout.{romOf, firstWrong, firstPast}
-use Rattle.layout.specs.Refusals.{tailRefusal, wordRefusal}
+use Rattle.layout.specs.Layout.{romOf, firstPast}
+use Rattle.layout.specs.Refusals.{wordRefusal}
 use Rattle.layout.proofs.Laws as layouts
 use Rattle.layout.proofs.Rom as roms
 use Rattle.image.specs.Image.{plain, image, wordOf, nodeOf}
 use Rattle.image.specs.Refusals.{nodeRefusal}
 use Rattle.image.specs.Calls.{buildOutcome, buildLeaves, checkOutcome, nodeOutcome}
 use Rattle.image.proofs.Laws.{plain-fits, whole-bytes}
+use Rattle.image.proofs.Checks.{check-none}
+use Rattle.image.proofs.Limits.{limit-none}
 use Rattle.image.proofs.Judging.{node-served}
 use Rattle.operand.specs.Operand.{cutOperand}
 use Rattle.interpolation.specs.Algorithm.{nodeNumber}
@@ -30,7 +32,7 @@ use Rattle.interpolation.specs.Calls.{reciprocalOutcome}
 use Rattle.statements.specs.Terms.{IsPrecision, IsLongEnough, IsRightAt, IsTailZero, IsFractionCount, IsNormalised}
 use Rattle.statements.proofs.Iff.{read-right}
 use Rattle.statements.proofs.Nodes.{served-decodes}
-use Rattle.statements.proofs.Numbers.{kept-answer, later-number, right-answer}
+use Rattle.statements.proofs.Numbers.{kept-answer, later-number}
 use Rattle.statements.proofs.Reciprocals.{has-word, gives}
 
 -- what the builder leaves, by its answer
@@ -85,8 +87,7 @@ module _ (k : ℕ) (s : List ℕ) (p : IsPrecision k) (l : IsLongEnough k s) whe
 
   pub built-checks : checkOutcome k (buildLeaves k s) ≡ served 0
   built-checks =
-      right-answer k (buildLeaves k s) p still-long built-words
-      ∙ passed (tailRefusal (plain k) (buildLeaves k s)) [] 0 (le-ltb (firstPast (plain k) (buildLeaves k s)) (length (buildLeaves k s)) nothing-past)
+      check-none k (buildLeaves k s) (limit-none k (buildLeaves k s) (p .0) (p .1) still-long) (le-of-eq (sym (layouts.all-right (plain k) (buildLeaves k s) built-words))) nothing-past
 
 -- right words and a zero tail make a full ROM, and the other way round
 pub right-is-rom : (k : ℕ) (s : List ℕ) → IsPrecision k → Bytes s → IsLongEnough k s → (((j : ℕ) → j < 2 ^ k → IsRightAt k s j) × IsTailZero k s) ↔ (s ≡ romOf (plain k) (length s))

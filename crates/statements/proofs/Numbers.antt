@@ -1,33 +1,32 @@
 -- The numbers of the calls: the limits of k and the buffer before any list of refusals, the check where a word or the tail is wrong,
 -- and the last refusals of reading a node.
 -- Assumes nothing.
-use mathlib.Core.Path.{_≡_, refl, _∙_, ap}
+use mathlib.Core.Path.{_≡_, refl, sym, _∙_, ap}
 use mathlib.Core.Logic.{_↔_}
 use mathlib.Core.Bool.{not}
 use mathlib.Core.List.{List, [], _∷_, _++_}
 use Prim.Native.Nat.{ℕ, _+_, _*_, _/_, _^_, _≤_, _<_}
-use native.Mathlib.Nat.{le-of-lt}
+use native.Mathlib.Nat.{le-of-lt, le-of-eq}
 use lib.ListN.{length, getD}
 use lib.Dec.{T, eqb, ltb}
-use borrow.Author.Tests.{lt-ltb}
 use Rattle.precision.specs.Precision.{imageLength}
 use Rattle.packing.specs.Packing.{Bytes, bitAt}
 use Rattle.tail.proofs.Bits.{before-first, at-first}
 use Rattle.answers.specs.Refusal.{Refusal, Outcome, outcome}
-use Rattle.answers.proofs.Order.{avoids, applied, passed, first, later}
+use Rattle.answers.proofs.Order.{avoids, first, later}
 use Rattle.layout.specs.Layout.{endOf, firstWrong, firstPast}
 use Rattle.layout.specs.Refusals.{lengthRefusal, imageRefusal, wordRefusal, tailRefusal}
-use Rattle.layout.proofs.Laws.{wrong-there, right-before}
+use Rattle.layout.proofs.Laws.{all-right, wrong-there, right-before}
 use Rattle.layout.proofs.Rom.{past-zero, past-there}
 use Rattle.image.specs.Image.{plain}
 use Rattle.image.specs.Refusals.{precisionRefusal, nodeRefusal, limits}
 use Rattle.image.specs.Calls.{checkOutcome, nodeRefusals}
 use Rattle.image.proofs.Laws.{whole-bytes}
+use Rattle.image.proofs.Checks.{check-wrong, check-past}
 use Rattle.image.proofs.Limits.{limit-none, limit-passes}
 use Rattle.image.proofs.Judging.{node-refused}
 use Rattle.statements.specs.Terms.{IsPrecision, IsLongEnough, IsRightAt, IsSetPast}
-use Rattle.statements.proofs.Iff as tests
-use Rattle.statements.proofs.Iff.{joined, same, both, failed, is-precision, no-precision, is-below, not-below, wrong-word, no-wrong-word, read-wrong, some-wrong, none-wrong}
+use Rattle.statements.proofs.Iff.{joined, same, both, is-precision, no-precision, is-below, not-below, wrong-word, no-wrong-word, read-wrong, some-wrong, none-wrong}
 
 -- a lone test, with nothing behind it
 pub alone : {A : Type 0} {n : ℕ} → (A × (n ≡ n)) ↔ A
@@ -61,22 +60,12 @@ module _ (k : ℕ) (s : List ℕ) where
   abbrev pub of-words : List Refusal
   of-words = imageRefusal (plain k) s ∷ tailRefusal (plain k) s ∷ []
 
-  -- its whole answer where a word is wrong, whatever the tail holds
-  pub wrong-answer : IsPrecision k → IsLongEnough k s → firstWrong (plain k) s < 2 ^ k → checkOutcome k s ≡ record { number = 6; place = firstWrong (plain k) s; value = 0 }
-  wrong-answer p l h = kept-answer k s of-words 0 p l ∙ applied (imageRefusal (plain k) s) (tailRefusal (plain k) s ∷ []) 0 (lt-ltb (firstWrong (plain k) s) (2 ^ k) h)
-
   pub first-wrong : IsPrecision k → IsLongEnough k s → (j : ℕ) → j < 2 ^ k → (IsRightAt k s j → ⊥)
       → (checkOutcome k s .place < 2 ^ k) × (IsRightAt k s (checkOutcome k s .place) → ⊥) × ((i : ℕ) → i < checkOutcome k s .place → IsRightAt k s i)
   first-wrong p l j h f =
       let t = is-below (firstWrong (plain k) s) (2 ^ k) .0 (some-wrong k s .1 (j, h, f)) in
-      rw (ap (λ (o : Outcome). o .place) (wrong-answer p l t))
+      rw (ap (λ (o : Outcome). o .place) (check-wrong k s (limit-none k s (p .0) (p .1) l) t))
       (t, wrong-there (plain k) s t, right-before (plain k) s)
-
-  -- its answer where the words are right is that for the tail
-  pub right-answer : IsPrecision k → IsLongEnough k s → ((j : ℕ) → j < 2 ^ k → IsRightAt k s j) → checkOutcome k s ≡ outcome (tailRefusal (plain k) s ∷ []) 0
-  right-answer p l r =
-      kept-answer k s of-words 0 p l
-      ∙ passed (imageRefusal (plain k) s) (tailRefusal (plain k) s ∷ []) 0 (failed (ltb (firstWrong (plain k) s) (2 ^ k)) (none-wrong k s .1 r))
 
   -- 7, by the lowest byte with a one behind the last word
   pub number-7 : (checkOutcome k s .number ≡ 7)
@@ -90,11 +79,8 @@ module _ (k : ℕ) (s : List ℕ) where
   pub place-7 : checkOutcome k s .number ≡ 7 → (firstPast (plain k) s < length s) × (checkOutcome k s .place ≡ firstPast (plain k) s)
   place-7 e =
       let t = number-7 .0 e in
-      let h = t .1 .1 .1 in (
-        is-below (firstPast (plain k) s) (length s) .0 h,
-        ap (λ (o : Outcome). o .place)
-            (right-answer (t .0) (t .1 .0) (t .1 .1 .0) ∙ applied (tailRefusal (plain k) s) [] 0 (tests.passed (ltb (firstPast (plain k) s) (length s)) h)),
-      )
+      let h = is-below (firstPast (plain k) s) (length s) .0 (t .1 .1 .1) in
+      (h, ap (λ (o : Outcome). o .place) (check-past k s (limit-none k s (t .0 .0) (t .0 .1) (t .1 .0)) (le-of-eq (sym (all-right (plain k) s (t .1 .1 .0)))) h))
 
 -- its place under 7, by bytes and by bits
 pub set-place : (k : ℕ) (s : List ℕ) → Bytes s → checkOutcome k s .number ≡ 7

@@ -9,19 +9,16 @@ use native.Mathlib.Omega.{arith}
 use lib.ListN.{length}
 use lib.Pow.{pow-mono}
 use borrow.Author.Needs.{needs}
-use borrow.Author.Tests.{lt-ltb, le-ltb}
 use Rattle.nodes.specs.Inner.{quotientsOf}
 use Rattle.nodes.specs.declared.Quotients.{Quotients}
 use Rattle.nodes.proofs.Nodes.{decode-most, numerator-whole, word-judged}
-use Rattle.answers.specs.Refusal.{Refusal, outcome}
 use Rattle.answers.specs.Answer.{done}
-use Rattle.answers.proofs.Order.{applied, passed}
 use Rattle.layout.specs.Layout.{firstWrong, firstPast}
 use Rattle.layout.specs.Refusals.{imageRefusal, tailRefusal}
 use Rattle.image.specs.Image.{plain}
-use Rattle.image.specs.Calls.{checkOutcome}
 use Rattle.image.specs.Inner.{refusalNumber, ownBytes, layoutOf}
-use Rattle.image.proofs.Limits.{ImageKept, limit-refuses, limit-passes, limit-kept}
+use Rattle.image.proofs.Checks.{check-wrong, check-past, check-none}
+use Rattle.image.proofs.Limits.{ImageKept, limit-refuses, limit-kept}
 use Rattle.image.proofs.OwnBytes.{own-wrong}
 use Rattle.checking.specs.Inner.{AreWords}
 use Rattle.checking.proofs.check.Statement.{statement}
@@ -40,16 +37,7 @@ limit c = sym (c .before .refusal-number .ensures) ∙ c .if1 .left
 kept : (c : tie.Else1) → ImageKept (k c) (s c)
 kept c = limit-kept (k c) (s c) (limit c)
 
--- so the refusals for a wrong word and for a wrong tail decide, and the table is that of k
-abbrev wrong : tie.Else1 → Refusal
-wrong c = imageRefusal (plain (k c)) (s c)
-
-abbrev soiled : tie.Else1 → Refusal
-soiled c = tailRefusal (plain (k c)) (s c)
-
-decides : (c : tie.Else1) → checkOutcome (k c) (s c) ≡ outcome (wrong c ∷ soiled c ∷ []) 0
-decides c = limit-passes (k c) (s c) (wrong c ∷ soiled c ∷ []) 0 (limit c)
-
+-- so the table is that of k
 table : (c : tie.After-table) → c .table .result ≡ quotientsOf (k (c .before))
 table c = c .table .ensures ∙ kept (c .before) .numbers
 
@@ -114,7 +102,7 @@ returns-2 c =
     let at = place .before .before .before in
     let less : firstWrong (plain (k at)) (s at) < 2 ^ k at = omega (arith, found place, counted (place .before .before), c .if2 .taken) in
     ap (λ (n : ℕ). done (record { number = 6; place = n; value = 0 })) (found place)
-    ∙ ap done (sym (decides at ∙ applied (wrong at) (soiled at ∷ []) 0 (lt-ltb (firstWrong (plain (k at)) (s at)) (2 ^ k at) less)))
+    ∙ ap done (sym (check-wrong (k at) (s at) (limit at) less))
 
 cast-first-one : tie.Need-cast-first-one
 cast-first-one c = search needs
@@ -133,38 +121,35 @@ mul-first-one c =
 first-one-requires : tie.Need-first-one-requires
 first-one-requires c κs = search needs
 
--- behind the test of the words all of them are right, so that the refusal for a wrong tail decides
+-- behind the test of the words all of them are right
 abbrev behind : tie.After-first-one → tie.Else1
 behind c = c .before .before .before .before .before .before .before .before
 
-words-pass : (c : tie.After-first-one) → checkOutcome (k (behind c)) (s (behind c)) ≡ outcome (soiled (behind c) ∷ []) 0
-words-pass c =
+right : (c : tie.After-first-one) → 2 ^ k (behind c) ≤ firstWrong (plain (k (behind c))) (s (behind c))
+right c =
     let tested = c .before .before .before in
     let place = tested .before .before in
-    let at = behind c in
-    let none : 2 ^ k at ≤ firstWrong (plain (k at)) (s at) = omega (arith, found place, counted (place .before .before), tested .if2 .left) in
-    decides at ∙ passed (wrong at) (soiled at ∷ []) 0 (le-ltb (firstWrong (plain (k at)) (s at)) (2 ^ k at) none)
+    omega (arith, found place, counted (place .before .before), tested .if2 .left)
 
 -- the byte that is found is the lowest with a one behind the words
-stained : (c : tie.After-first-one) → c .first-one .result ≡ firstPast (plain (k (behind c))) (s (behind c))
-stained c =
-    let at = behind c in
+past : (c : tie.After-first-one) → c .first-one .result ≡ firstPast (plain (k (behind c))) (s (behind c))
+past c =
     c .first-one .ensures
-    ∙ ap (λ (t : Quotients). firstPast (layoutOf t) (s at)) (table (c .before .before .before .before .before .before .before))
+    ∙ ap (λ (t : Quotients). firstPast (layoutOf t) (s (behind c))) (table (c .before .before .before .before .before .before .before))
 
 returns-3 : tie.Need-returns-3
 returns-3 c =
     let at = behind (c .before) in
-    let less : firstPast (plain (k at)) (s at) < length (s at) = omega (arith, stained (c .before), c .if3 .taken) in
-    ap (λ (n : ℕ). done (record { number = 7; place = n; value = 0 })) (stained (c .before))
-    ∙ ap done (sym (words-pass (c .before) ∙ applied (soiled at) [] 0 (lt-ltb (firstPast (plain (k at)) (s at)) (length (s at)) less)))
+    let less : firstPast (plain (k at)) (s at) < length (s at) = omega (arith, past (c .before), c .if3 .taken) in
+    ap (λ (n : ℕ). done (record { number = 7; place = n; value = 0 })) (past (c .before))
+    ∙ ap done (sym (check-past (k at) (s at) (limit at) (right (c .before)) less))
 
 -- nothing is wrong
 returns-4 : tie.Need-returns-4
 returns-4 c =
     let at = behind (c .before) in
-    let none : length (s at) ≤ firstPast (plain (k at)) (s at) = omega (arith, stained (c .before), c .if3 .left) in
-    ap done (sym (words-pass (c .before) ∙ passed (soiled at) [] 0 (le-ltb (firstPast (plain (k at)) (s at)) (length (s at)) none)))
+    let none : length (s at) ≤ firstPast (plain (k at)) (s at) = omega (arith, past (c .before), c .if3 .left) in
+    ap done (sym (check-none (k at) (s at) (limit at) (right (c .before)) none))
 
 pub check-spec : {M : Type 1} → statement M
 check-spec =
