@@ -60,7 +60,8 @@ pub fn check(k: Precision, image: &[u8]) -> Done
             value: 0,
         };
     }
-    let past = tail::first_one(image, (table.count as u64) * (table.width as u64));
+    let end = (table.count as u64) * (table.width as u64);
+    let past = tail::first_one(image, end);
     if past < image.len() {
         return Done {
             number: 7,

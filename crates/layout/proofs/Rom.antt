@@ -24,16 +24,16 @@ use Rattle.layout.specs.Layout.{Layout, endOf, lengthOf, imageOf, romOf,
 use Rattle.layout.proofs.Laws.{Fits, Whole, image-length, image-word}
 
 module _ (t : Layout) (n : ℕ) where
-  -- it starts with the image, and zeros follow
+  -- it has its n bytes
+  pub rom-length : lengthOf t ≤ n → length (romOf t n) ≡ n
+  rom-length h = length-append (imageOf t) (zeros (n - lengthOf t)) ∙ omega (arith, image-length t, length-zeros (n - lengthOf t), h)
+
+  -- starts with the image, and zeros follow
   pub rom-front : take (lengthOf t) (romOf t n) ≡ imageOf t
   rom-front = take-at (imageOf t) (zeros (n - lengthOf t)) (lengthOf t) (image-length t)
 
   pub rom-rest : drop (lengthOf t) (romOf t n) ≡ zeros (n - lengthOf t)
   rom-rest = drop-at (imageOf t) (zeros (n - lengthOf t)) (lengthOf t) (image-length t)
-
-  -- and has its n bytes
-  pub rom-length : lengthOf t ≤ n → length (romOf t n) ≡ n
-  rom-length h = length-append (imageOf t) (zeros (n - lengthOf t)) ∙ omega (arith, image-length t, length-zeros (n - lengthOf t), h)
 
 -- the image over the front of a buffer, and zeros written behind it, make one
 pub rom-written : (t : Layout) (s : List ℕ) → lengthOf t ≤ length s → clearedFrom (lengthOf t) (imageOf t ++ drop (lengthOf t) s) ≡ romOf t (length s)
@@ -66,25 +66,6 @@ module _ (t : Layout) (fits : Fits t) where
   pub rom-word : (n j : ℕ) → j < t .count → wordIn t (romOf t n) j ≡ t .word j
   rom-word n j h = image-word t fits j (zeros (n - lengthOf t)) h
 
-  -- and nothing stands behind them: neither in the bits that fill the last byte nor in the bytes after it
-  pub rom-past : (n : ℕ) → lengthOf t ≤ n → firstPast t (romOf t n) ≡ n
-  rom-past n h = ap (lowest (hasOneFrom (endOf t) (romOf t n))) (rom-length t n h) ∙ lowest-none (hasOneFrom (endOf t) (romOf t n)) n none
-    where
-      filling : (c : ℕ) → endOf t ≤ c → c / 8 < lengthOf t → bitAt (romOf t n) c ≡ 0
-      filling c from l =
-          bit-of-filling (t .width) (t .word) (t .count) c (zeros (n - lengthOf t)) (bytes-zeros (n - lengthOf t)) (fits .words) from (omega (arith, l))
-
-      in-image : (i : ℕ) → i < lengthOf t → (b : Bool) → hasOneFrom (endOf t) (romOf t n) i ≡ b → b ≡ false
-      in-image i l true e =
-          let c = one-bit (endOf t) (romOf t n) i e in
-          absurd (omega (arith, c .3, filling (c .0) (c .1) (omega (arith, c .2, l))))
-      in-image i l false e = refl
-
-      none : (i : ℕ) → i < n → hasOneFrom (endOf t) (romOf t n) i ≡ false
-      none i l =
-          ⊎-elim (λ b. in-image i b (hasOneFrom (endOf t) (romOf t n) i) refl) (λ g. byte-zero (endOf t) (romOf t n) i (rom-zero t n i g l))
-          (below-or-not i (lengthOf t))
-
   -- a buffer whose words are right and behind them has no one is the ROM of its length
   module _ (s : List ℕ) (bytes : Bytes s) (long : lengthOf t ≤ length s) where
     pub right-rom : ((j : ℕ) → j < t .count → wordIn t s j ≡ t .word j) → firstPast t s ≡ length s → s ≡ romOf t (length s)
@@ -113,6 +94,25 @@ module _ (t : Layout) (fits : Fits t) where
             getD-drop (lengthOf t) s i 0
             ∙ none-zero (endOf t) s (lengthOf t + i) (omega arith) (bytes (lengthOf t + i)) (none (lengthOf t + i) (omega (arith, h)))
             ∙ sym (getD-replicate (length s - lengthOf t) i 0 0 h)
+
+  -- and nothing stands behind the words of a ROM: neither in the bits that fill the last byte nor in the bytes after it
+  pub rom-past : (n : ℕ) → lengthOf t ≤ n → firstPast t (romOf t n) ≡ n
+  rom-past n h = ap (lowest (hasOneFrom (endOf t) (romOf t n))) (rom-length t n h) ∙ lowest-none (hasOneFrom (endOf t) (romOf t n)) n none
+    where
+      filling : (c : ℕ) → endOf t ≤ c → c / 8 < lengthOf t → bitAt (romOf t n) c ≡ 0
+      filling c from l =
+          bit-of-filling (t .width) (t .word) (t .count) c (zeros (n - lengthOf t)) (bytes-zeros (n - lengthOf t)) (fits .words) from (omega (arith, l))
+
+      in-image : (i : ℕ) → i < lengthOf t → (b : Bool) → hasOneFrom (endOf t) (romOf t n) i ≡ b → b ≡ false
+      in-image i l true e =
+          let c = one-bit (endOf t) (romOf t n) i e in
+          absurd (omega (arith, c .3, filling (c .0) (c .1) (omega (arith, c .2, l))))
+      in-image i l false e = refl
+
+      none : (i : ℕ) → i < n → hasOneFrom (endOf t) (romOf t n) i ≡ false
+      none i l =
+          ⊎-elim (λ b. in-image i b (hasOneFrom (endOf t) (romOf t n) i) refl) (λ g. byte-zero (endOf t) (romOf t n) i (rom-zero t n i g l))
+          (below-or-not i (lengthOf t))
 
 -- where the words take whole bytes, the lowest byte with a one behind them is the lowest one past the image that is not zero
 module _ (t : Layout) (whole : Whole t) (s : List ℕ) where

@@ -11,10 +11,10 @@ const BLOCK: usize = 64;
 pub fn clear(s: &mut [u8], from: usize)
     ensures { λ r. ⌜ now (s .exit) ≡ clearedFrom from (now (s .entry)) ⌝ }
 {
-    let mut at = from;
-    while at < s.len() {
-        s[at] = 0;
-        at += 1;
+    let mut i = from;
+    while i < s.len() {
+        s[i] = 0;
+        i += 1;
     }
 }
 

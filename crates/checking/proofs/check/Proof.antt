@@ -92,8 +92,8 @@ found c =
 counted : (c : tie.After-table) → c .table .result .count ≡ 2 ^ k (c .before)
 counted c = ap (λ (t : Quotients). t .count) (table c)
 
-cast-t10 : tie.Need-cast-t10
-cast-t10 c = search needs
+cast-t11 : tie.Need-cast-t11
+cast-t11 c = search needs
 
 -- the lowest wrong word is the place
 returns-2 : tie.Need-returns-2
@@ -104,14 +104,14 @@ returns-2 c =
     ap (λ (n : ℕ). done (record { number = 6; place = n; value = 0 })) (found place)
     ∙ ap done (sym (check-wrong (k at) (s at) (limit at) less))
 
-cast-first-one : tie.Need-cast-first-one
-cast-first-one c = search needs
+cast-end : tie.Need-cast-end
+cast-end c = search needs
 
-cast-first-one-2 : tie.Need-cast-first-one-2
-cast-first-one-2 c = search needs
+cast-end-2 : tie.Need-cast-end-2
+cast-end-2 c = search needs
 
-mul-first-one : tie.Need-mul-first-one
-mul-first-one c =
+mul-end : tie.Need-mul-end
+mul-end c =
     let at = c .before .before .before .before .before .before in
     rw (table at) (omega (arith, mul-le-mul (pow-mono (kept (at .before) .high)) (wide (k (at .before)) (kept (at .before) .high))))
   where
@@ -160,11 +160,11 @@ check-spec =
     table-requires
     own-bytes-requires
     first-wrong-requires
-    cast-t10
+    cast-t11
     returns-2
-    cast-first-one
-    cast-first-one-2
-    mul-first-one
+    cast-end
+    cast-end-2
+    mul-end
     first-one-requires
     returns-3
     returns-4)
