@@ -8,8 +8,8 @@
 #include <stdio.h>
 #include <yildegga.h>
 
-#define TURNED_BACK 1 /* the library turned a call back, or found a wrong word */
-#define NOT_CALLED 2  /* the arguments, the input, a file or the output did not allow it */
+#define TURNED_BACK 1 /* the library turned a call back, or found a wrong word or tail */
+#define NOT_CALLED 2  /* the arguments, the memory, the input, a file or the output did not allow it */
 
 /* Reads a number that is written in decimal digits alone, no sign and no space, and is at most `most`. */
 static inline bool read_number(const char *text, size_t length, uint64_t most, uint64_t *value)
@@ -45,6 +45,7 @@ static inline const char *refusal(uint32_t number)
     case YILDEGGA_FRACTION_BITS: return "the fraction bits are fewer than 1 or more than 63";
     case YILDEGGA_NOT_NORMALISED: return "the operand is not from 2^n to 2^(n+1) - 1";
     case YILDEGGA_WRONG_WORD: return "the word is not the construction's";
+    case YILDEGGA_TAIL_NOT_ZERO: return "a byte past the image is not zero";
     default: return "served";
     }
 }

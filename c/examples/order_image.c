@@ -1,38 +1,54 @@
-/* Orders an image: builds the one of precision K, writes it to FILE, and prints K and the bytes written. The exit status is 1 where
- * the library turns the call back, and 2 where the arguments, the file or the output do not allow it.
+/* Orders a ROM: builds the image of precision K with zeros behind it to SIZE bytes, or the image alone where no SIZE is given, writes
+ * it to FILE, and prints K and the bytes written. The exit status is 1 where the library turns the call back, and 2 where the
+ * arguments, the memory, the file or the output do not allow it.
  *
- *     order_image K FILE
+ *     order_image K FILE [SIZE]
  */
 #include <errno.h>
 #include <inttypes.h>
 #include <stdio.h>
+#include <stdlib.h>
 #include <string.h>
 #include "caller.h"
 
-int main(int argc, char **argv)
+/* Builds the ROM in the lent bytes, writes them to the file and prints the line. It gives the exit status. */
+static int order(uint32_t k, const char *name, uint8_t *rom, size_t size)
 {
-    uint8_t image[YILDEGGA_LONGEST_IMAGE];
-    uint32_t k;
-    if (argc != 3)
-        return not_called("order_image", "usage: order_image K FILE");
-    if (!read_number_32(argv[1], strlen(argv[1]), &k))
-        return not_called("order_image", "K is not a number from 1 to 12");
-
-    yildegga_done built = yildegga_build(k, image, sizeof image);
+    yildegga_done built = yildegga_build(k, rom, size);
     if (built.number != YILDEGGA_SERVED)
         return turned_back("order_image", built.number);
 
-    size_t length = yildegga_image_length(k);
-    FILE *file = fopen(argv[2], "wb");
-    bool written = file && fwrite(image, 1, length, file) == length;
+    FILE *file = fopen(name, "wb");
+    bool written = file && fwrite(rom, 1, size, file) == size;
     if (file && fclose(file) != 0)
         written = false;
     if (!written) {
-        fprintf(stderr, "order_image: %s: %s\n", argv[2], strerror(errno));
+        fprintf(stderr, "order_image: %s: %s\n", name, strerror(errno));
         return NOT_CALLED;
     }
-    printf("%" PRIu32 " %zu\n", k, length);
+    printf("%" PRIu32 " %zu\n", k, size);
     if (fflush(stdout) != 0)
         return not_called("order_image", strerror(errno));
     return 0;
+}
+
+int main(int argc, char **argv)
+{
+    uint32_t k;
+    uint64_t size;
+    if (argc != 3 && argc != 4)
+        return not_called("order_image", "usage: order_image K FILE [SIZE]");
+    if (!read_number_32(argv[1], strlen(argv[1]), &k))
+        return not_called("order_image", "K is not a number from 1 to 12");
+    if (argc == 3)
+        size = yildegga_image_length(k);
+    else if (!read_number(argv[3], strlen(argv[3]), SIZE_MAX, &size))
+        return not_called("order_image", "SIZE is not a number below 2^64");
+
+    uint8_t *rom = malloc(size);
+    if (!rom && size > 0) /* with no bytes NULL is as good as another pointer: the library turns the call back */
+        return not_called("order_image", "out of memory");
+    int status = order(k, argv[2], rom, size);
+    free(rom);
+    return status;
 }

@@ -2,15 +2,18 @@
  *
  * A precision k from 1 to 12 has a node j for each j from 0 to 2^k, whose value is 2^(3k+3) / (2^k + j), rounded up and counted
  * in table units of 1 / 2^(2k+3). Its image is the words of the nodes below 2^k, of 2k + 2 bits each, packed with the most
- * significant bit first. An operand x with n fraction bits, 1 to 63 at every k, stands for x / 2^n. The first 2k + 3 of them are
+ * significant bit first. A buffer may be longer than the image: the bytes past it are its tail, and an image with zeros to the
+ * buffer's end is a full ROM. yildegga_build writes one and yildegga_check asks for one; the other calls take the image alone,
+ * whatever the tail holds. An operand x with n fraction bits, 1 to 63 at every k, stands for x / 2^n. The first 2k + 3 of them are
  * looked at: further ones are cut off, and where x has fewer, it is padded with zeros. Its reciprocal is counted in ulps of
  * 1 / 2^(2k+1) and lies less than one ulp from 2^n / x, at every n.
  *
  * No call has a precondition on its numbers. What breaks a limit is turned back with the number of the first refusal that
  * applies, in the order of their numbers, and with every lent byte left as it was. These promises are proved. What the proofs
  * cannot check is the caller's part:
- *   - `image` points to `length` bytes that belong to the caller, for writing in yildegga_build and for reading elsewhere. They
- *     may be more than the image has: those past it are neither read (which is tested, and no proof speaks of it) nor written.
+ *   - `image` points to `length` bytes that belong to the caller, for writing in yildegga_build and for reading elsewhere. All of
+ *     them are written where yildegga_build serves, and read where yildegga_check does. The other calls read no byte of the tail,
+ *     which is tested, and no proof speaks of it.
  *   - Nothing else writes these bytes during a call, and nothing else reads them while yildegga_build writes them. The library
  *     keeps no state, so calls on other bytes, and calls that only read, may run at once in several threads.
  *   - The bytes do not overlap the object that takes the answer.
@@ -40,6 +43,8 @@ extern "C" {
 #define YILDEGGA_FRACTION_BITS 4u  /* n is below 1 or above 63 */
 #define YILDEGGA_NOT_NORMALISED 5u /* x is not from 2^n to 2^(n+1) - 1 */
 #define YILDEGGA_WRONG_WORD 6u     /* a word that the call reads is not the construction's: the place is the lowest such node */
+#define YILDEGGA_TAIL_NOT_ZERO 7u  /* a byte past the image is not zero: the place is the lowest such byte's number, from 0 at the
+                                      buffer's start */
 
 /* The limits. */
 #define YILDEGGA_LEAST_PRECISION 1u
@@ -60,7 +65,8 @@ extern "C" {
 typedef struct { uint64_t count; } yildegga_table_units; /* 1 / 2^(2k+3) each */
 typedef struct { uint64_t count; } yildegga_ulps;        /* 1 / 2^(2k+1) each */
 
-/* The answers. The place is 0 except in YILDEGGA_WRONG_WORD; the value is 0 where the number is not YILDEGGA_SERVED. */
+/* The answers. The place is 0 except in YILDEGGA_WRONG_WORD and YILDEGGA_TAIL_NOT_ZERO; the value is 0 where the number is not
+   YILDEGGA_SERVED. */
 typedef struct { uint32_t number; uint64_t place; uint64_t value; } yildegga_done; /* the value is always 0 */
 typedef struct { uint32_t number; uint64_t place; yildegga_table_units value; } yildegga_node_read;
 typedef struct { uint32_t number; uint64_t place; yildegga_ulps value; } yildegga_reciprocal_given;
@@ -78,12 +84,13 @@ typedef char yildegga_laid_out_as_in_the_archive[
 /* The bytes of the image of precision k; 0 where k is no precision. */
 size_t yildegga_image_length(uint32_t k);
 
-/* Writes the image of precision k at the front of the buffer, whatever it held; bytes past the image stay.
+/* Makes the buffer a full ROM of precision k, whatever it held: the image, and zeros to the last of the `length` bytes.
    Refusals: 1, 2. */
 yildegga_done yildegga_build(uint32_t k, uint8_t *image, size_t length);
 
-/* Serves exactly the image of precision k; the place of refusal 6 is the node of the first wrong word.
-   Refusals: 1, 2, 6. */
+/* Serves exactly a full ROM of precision k: the image, and zeros to the last of the `length` bytes. The place of refusal 6 is the
+   node of the first wrong word, and that of refusal 7 the number of the first byte past the image that is not zero.
+   Refusals: 1, 2, 6, 7. */
 yildegga_done yildegga_check(uint32_t k, const uint8_t *image, size_t length);
 
 /* The value of node j, judged by its own word alone; node 2^k has no word and its value is implied.

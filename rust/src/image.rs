@@ -18,14 +18,20 @@ pub fn image_length(k: u32) -> Option<usize> {
     }
 }
 
-/// Writes the image of precision `k` at the front of the buffer. The bytes past it stay as they are.
+/// Makes the buffer a full ROM of precision `k`, whatever it held: the image at the front, and zeros to the end.
 ///
 /// Turned back by refusals 1 and 2.
 ///
 /// ```
-/// let mut buffer = [0xFF; 4];
-/// yildegga::build(2, &mut buffer)?;
-/// assert_eq!(buffer, [0x02, 0x75, 0x8A, 0xFF]);
+/// let mut image = [0xFF; 3];
+/// yildegga::build(2, &mut image)?;
+/// assert_eq!(image, [0x02, 0x75, 0x8A]);
+///
+/// // A ROM that is longer than the image.
+/// let mut rom = [0xFF; 4];
+/// yildegga::build(2, &mut rom)?;
+/// assert_eq!(rom, [0x02, 0x75, 0x8A, 0x00]);
+/// yildegga::check(2, &rom)?;
 ///
 /// // A buffer that is too short is left as it was.
 /// let mut short = [0xFF; 2];
@@ -38,15 +44,24 @@ pub fn build(k: u32, image: &mut [u8]) -> Result<(), Refused> {
     served(yildegga_sys::build(k, image)).map(|_| ())
 }
 
-/// Whether every word of the image of precision `k` is the construction's.
+/// Whether the buffer is a full ROM of precision `k`: every word of the image is the construction's, and every byte past it is zero.
 ///
-/// Turned back by refusals 1, 2 and 6; the place of 6 is the lowest node whose word is wrong.
+/// Turned back by refusals 1, 2, 6 and 7; the place of 6 is the lowest node whose word is wrong, and that of 7, where every word is right,
+/// the lowest byte past the image that is not zero.
 ///
 /// ```
 /// yildegga::check(2, &[0x02, 0x75, 0x8A])?;
+/// yildegga::check(2, &[0x02, 0x75, 0x8A, 0x00])?;
 ///
 /// let refused = yildegga::check(2, &[0x00, 0x00, 0x00]).unwrap_err();
 /// assert_eq!((refused.number(), refused.place()), (6, 1));
+///
+/// let refused = yildegga::check(2, &[0x02, 0x75, 0x8A, 0x00, 0x01]).unwrap_err();
+/// assert_eq!((refused.number(), refused.place()), (7, 4));
+///
+/// // A wrong word is named before a wrong tail.
+/// let refused = yildegga::check(2, &[0x02, 0x75, 0x8B, 0x01]).unwrap_err();
+/// assert_eq!((refused.number(), refused.place()), (6, 3));
 /// # Ok::<(), yildegga::Refused>(())
 /// ```
 #[inline]

@@ -1,14 +1,18 @@
 //! Reciprocal tables for graphics hardware, and the reciprocals taken from them, in which every word and every last place is proved.
 //!
 //! A table has a precision k from 1 to 12. Its image, a string of bit-packed words, stands in bytes that the caller lends, and the
-//! calls on it take k and those bytes:
+//! calls on it take k and those bytes. These may be more than the image has: those past it are the tail, and an image with zeros to the
+//! end of the bytes is a full ROM.
 //!
-//! - [`build`] writes the image, [`image_length`] says how long it is;
-//! - [`check`] tells whether an image is right, and names the lowest node whose word is not;
+//! - [`build`] writes a full ROM, the image and zeros behind it; [`image_length`] says how long the image is;
+//! - [`check`] tells whether the bytes are a full ROM, and names the lowest node whose word is wrong, or else the lowest byte past the
+//!   image that is not zero;
 //! - [`node`] reads one node, [`word_bytes`] and [`word_range`] show the bytes that hold its word;
 //! - [`node_8`] gives a node of precision 8 without an image;
 //! - [`reciprocal`] gives the reciprocal of an operand of 1 to 63 fraction bits, less than one ulp from the exact one;
 //! - a [`BoundTable`] keeps an image and its precision together for many operands.
+//!
+//! The tail is for [`build`] and [`check`]: the other calls give the same whatever it holds.
 //!
 //! No call has a precondition: whatever breaks a limit is turned back as a [`Refused`], with a number and a place, and leaves every
 //! byte as it was. No call panics, allocates or keeps anything.
@@ -19,6 +23,14 @@
 //! yildegga::build(2, &mut image)?;
 //! assert_eq!(image, [0x02, 0x75, 0x8A]);
 //! assert_eq!(yildegga::reciprocal(2, &image, 7, 135)?, yildegga::Ulps(30));
+//!
+//! // A ROM of 8 bytes, the same image with zeros to the end, and one of these bytes worn.
+//! let mut rom = [0xFF; 8];
+//! yildegga::build(2, &mut rom)?;
+//! assert_eq!(rom, [0x02, 0x75, 0x8A, 0, 0, 0, 0, 0]);
+//! rom[6] = 1;
+//! let refused = yildegga::check(2, &rom).unwrap_err();
+//! assert_eq!((refused.number(), refused.place()), (7, 6));
 //!
 //! // A caller's mistake is turned back.
 //! let refused = yildegga::build(2, &mut image[..2]).unwrap_err();

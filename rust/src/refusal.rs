@@ -27,10 +27,12 @@ pub enum Refusal {
     NotNormalised = 5,
     /// A word that the call reads is not the construction's.
     WrongWord = 6,
+    /// A byte past the image is not zero.
+    TailNotZero = 7,
 }
 
 impl Refusal {
-    /// The number of the refusal, 1 to 6.
+    /// The number of the refusal, 1 to 7.
     ///
     /// ```
     /// assert_eq!(yildegga::Refusal::WrongWord.number(), 6);
@@ -50,6 +52,7 @@ impl fmt::Display for Refusal {
             Refusal::FractionBits => "the fraction bits are fewer than 1 or more than 63",
             Refusal::NotNormalised => "the operand is not from 2^n to 2^(n+1) - 1",
             Refusal::WrongWord => "the word is not the construction's",
+            Refusal::TailNotZero => "a byte past the image is not zero",
         })
     }
 }
@@ -60,6 +63,10 @@ impl fmt::Display for Refusal {
 /// // The last bit of the image is wrong, and with it the word of node 3.
 /// let refused = yildegga::check(2, &[0x02, 0x75, 0x8B]).unwrap_err();
 /// assert_eq!(refused.to_string(), "refusal 6 at node 3: the word is not the construction's");
+///
+/// // The image is right, and of the two bytes past it the second is not zero.
+/// let refused = yildegga::check(2, &[0x02, 0x75, 0x8A, 0x00, 0x01]).unwrap_err();
+/// assert_eq!(refused.to_string(), "refusal 7 at byte 4: a byte past the image is not zero");
 /// ```
 #[derive(Clone, Copy, Debug, PartialEq, Eq, Hash)]
 pub struct Refused {
@@ -79,7 +86,7 @@ impl Refused {
         self.refusal
     }
 
-    /// The number of the refusal, 1 to 6.
+    /// The number of the refusal, 1 to 7.
     ///
     /// ```
     /// assert_eq!(yildegga::check(2, &[]).unwrap_err().number(), 2);
@@ -89,10 +96,12 @@ impl Refused {
         self.refusal.number()
     }
 
-    /// In refusal 6 the lowest node whose word was read and is wrong, 0 in the others.
+    /// In refusal 6 the lowest node whose word was read and is wrong, in refusal 7 the number of the lowest byte past the image that is
+    /// not zero, counted from 0 at the buffer's start, and 0 in the others.
     ///
     /// ```
     /// assert_eq!(yildegga::check(2, &[0x02, 0x75, 0x8B]).unwrap_err().place(), 3);
+    /// assert_eq!(yildegga::check(2, &[0x02, 0x75, 0x8A, 0x00, 0x01]).unwrap_err().place(), 4);
     /// assert_eq!(yildegga::check(2, &[]).unwrap_err().place(), 0);
     /// ```
     #[inline]
@@ -104,8 +113,10 @@ impl Refused {
 impl fmt::Display for Refused {
     fn fmt(&self, f: &mut fmt::Formatter<'_>) -> fmt::Result {
         write!(f, "refusal {}", self.number())?;
-        if self.refusal == Refusal::WrongWord {
-            write!(f, " at node {}", self.place)?;
+        match self.refusal {
+            Refusal::WrongWord => write!(f, " at node {}", self.place)?,
+            Refusal::TailNotZero => write!(f, " at byte {}", self.place)?,
+            _ => {}
         }
         write!(f, ": {}", self.refusal)
     }
@@ -133,7 +144,8 @@ fn refused(number: u32, place: u64) -> Refused {
         4 => Refusal::FractionBits,
         5 => Refusal::NotNormalised,
         6 => Refusal::WrongWord,
-        _ => unreachable!("the library is proved to answer by no number but 0 to 6: {number}"),
+        7 => Refusal::TailNotZero,
+        _ => unreachable!("the library is proved to answer by no number but 0 to 7: {number}"),
     };
     Refused { refusal, place }
 }

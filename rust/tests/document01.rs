@@ -1,4 +1,5 @@
-//! The set examples of document 01, its cases at the limits as Q-1 of document 02 has them, and the errors that the tables invite.
+//! The set examples of document 01, its cases at the limits as Q-1 of document 02 has them, the full ROMs of Q-2, and the errors that
+//! the tables invite.
 #![forbid(unsafe_code)]
 
 mod common;
@@ -132,6 +133,21 @@ fn wrong_words() {
     assert_eq!(word_bytes(2, &last, 3), [0x8B]); // the word is not judged
     assert_eq!(said(check(2, &[0x00, 0x00, 0x00])), Err((6, 1)));
     assert_eq!(said(check(2, &[0x06, 0x75, 0x8A])), Err((6, 0)));
+}
+
+#[test]
+fn full_roms() {
+    let mut rom = [0xA5; 4];
+    assert_eq!(said(build(2, &mut rom)), Ok(()));
+    assert_eq!(rom, [0x02, 0x75, 0x8A, 0x00]);
+    assert_eq!(said(check(2, &rom)), Ok(()));
+    assert_eq!(said(check(2, &[0x02, 0x75, 0x8A, 0x00, 0x01])), Err((7, 4)));
+    assert_eq!(said(check(2, &[0x02, 0x75, 0x8B, 0x01])), Err((6, 3)));
+    // The other calls do not look at the tail.
+    let worn = [0x02, 0x75, 0x8A, 0xFF];
+    assert_eq!(node_by_both(2, &worn, 3), Ok(TableUnits(74)));
+    assert_eq!(word_bytes(2, &worn, 3), [0x8A]);
+    assert_eq!(reciprocal_by_both(2, &worn, 7, 255), Ok(Ulps(16)));
 }
 
 #[test]

@@ -13,19 +13,21 @@ fn room(length: usize) -> Vec<u8> {
     (0..GUARD + length + GUARD).map(|at| (at * 37 + 11) as u8).collect()
 }
 
-/// The image is written at the front of what is lent, and no byte before or after it changes, at any alignment.
+/// What is lent becomes the image and zeros to its end, and no byte before or after it changes, at any alignment.
 #[test]
-fn build_writes_the_image_alone() {
+fn build_writes_what_is_lent_and_no_more() {
     for k in 1..=12 {
         let length = LENGTHS[k as usize - 1];
-        for (shift, more) in (0..16).zip([0, 1, 2, 7, 16].into_iter().cycle()) {
+        for (shift, more) in (0..16).zip([0, 1, 2, 7, 16, 64, 65, 1000, 70000].into_iter().cycle()) {
             let before = room(length + more);
-            let start = GUARD - shift;
+            let (start, end) = (GUARD - shift, GUARD - shift + length + more);
             let mut after = before.clone();
-            assert_eq!(said(build(k, &mut after[start..start + length + more])), Ok(()));
-            assert_eq!(after[..start], before[..start], "k = {k}");
-            assert_eq!(after[start..start + length], image(k), "k = {k}");
-            assert_eq!(after[start + length..], before[start + length..], "k = {k}");
+            assert_eq!(said(build(k, &mut after[start..end])), Ok(()));
+            assert_eq!(after[..start], before[..start], "k = {k}, {more} bytes more");
+            assert_eq!(after[start..start + length], image(k), "k = {k}, {more} bytes more");
+            assert_eq!(after[start + length..end], vec![0; more], "k = {k}, {more} bytes more");
+            assert_eq!(after[end..], before[end..], "k = {k}, {more} bytes more");
+            assert_eq!(said(check(k, &after[start..end])), Ok(()), "k = {k}, {more} bytes more");
         }
     }
 }
@@ -66,22 +68,42 @@ fn reading_writes_nothing() {
     }
 }
 
-/// No byte past the image is read: whatever stands there, the answers are the same.
+/// But for the check, no call that reads depends on the tail: whatever stands there, the answers are the same.
 #[test]
-fn nothing_past_the_image_is_read() {
+fn no_node_or_reciprocal_depends_on_the_tail() {
     for k in 1..=12 {
         let exact = image(k);
         for after in [0x00, 0x55, 0xFF] {
             let mut longer = exact.clone();
             longer.resize(exact.len() + 16, after);
-            assert_eq!(said(check(k, &longer)), Ok(()));
+            let table = BoundTable::new(k, &longer);
             for j in (1 << k) - 1..=(1 << k) + 1 {
                 assert_eq!(said(node(k, &longer, j)), said(node(k, &exact, j)));
+                assert_eq!(said(table.node(j)), said(node(k, &exact, j)));
                 assert_eq!(word_range(k, &longer, j), word_range(k, &exact, j));
+                assert_eq!(word_bytes(k, &longer, j), word_bytes(k, &exact, j));
             }
             for (n, x) in [(63, u64::MAX), (k, (2 << k) - 1)] {
                 assert_eq!(said(reciprocal(k, &longer, n, x)), said(reciprocal(k, &exact, n, x)));
+                assert_eq!(said(table.reciprocal(n, x)), said(reciprocal(k, &exact, n, x)));
             }
+        }
+    }
+}
+
+/// The check reads the tail to its last byte and no further: what stands behind the lent bytes does not count.
+#[test]
+fn check_reads_what_is_lent_and_no_more() {
+    for k in 1..=12 {
+        let length = LENGTHS[k as usize - 1];
+        for more in [0, 1, 7, 8, 63, 64, 65, 1000] {
+            let mut room = room(length + more);
+            let lent = GUARD..GUARD + length + more;
+            build(k, &mut room[lent.clone()]).unwrap();
+            assert_eq!(said(check(k, &room[lent.clone()])), Ok(()), "k = {k}, {more} bytes more");
+            let first_guard = room[lent.end..].iter().position(|&byte| byte != 0).unwrap();
+            let place = (length + more + first_guard) as u64;
+            assert_eq!(said(check(k, &room[GUARD..])), Err((7, place)), "k = {k}, {more} bytes more");
         }
     }
 }

@@ -11,7 +11,8 @@ fn precisions() -> Vec<u32> {
     [0, 13, 14, 31, 32, 63, 64, 255, 256, 257, 1 << 16, (1 << 16) + 1, 1 << 31, u32::MAX - 1, u32::MAX].into_iter().chain(1..=12).collect()
 }
 
-/// For each precision, the image with two bytes after it, at lengths about the image's. Where there is no such image, bytes of any kind.
+/// For each precision, the image with a tail of two bytes, of which the first is not zero, at lengths about the image's. Where there is no
+/// such image, bytes of any kind.
 fn each_buffer(mut visit: impl FnMut(u32, &[u8])) {
     for k in precisions() {
         let mut bytes = if (1..=12).contains(&k) { image(k) } else { vec![0x5A; 13312] };
@@ -38,11 +39,42 @@ fn first_two(k: u32, buffer: &[u8]) -> Option<(u32, u64)> {
 fn of_an_image() {
     each_buffer(|k, buffer| {
         let expected = first_two(k, buffer).map_or(Ok(()), Err);
-        assert_eq!(said(check(k, buffer)), expected, "k = {k}, {} bytes", buffer.len());
+        let has_tail = |length: &usize| buffer.len() > *length;
+        let checked = expected.and_then(|()| image_length(k).filter(has_tail).map_or(Ok(()), |length| Err((7, length as u64))));
+        assert_eq!(said(check(k, buffer)), checked, "k = {k}, {} bytes", buffer.len());
         let mut built = vec![0xA5; buffer.len()];
         assert_eq!(said(build(k, &mut built)), expected, "k = {k}, {} bytes", buffer.len());
+        assert_eq!(said(check(k, &built)), expected, "k = {k}, {} bytes", buffer.len());
         assert_eq!(image_length(k).is_none(), expected == Err((1, 0)));
     });
+}
+
+/// Each bit of tails up to 70 bytes, and the first and last bits of longer ones: its byte is named, the lower of two too, and a wrong word
+/// before either.
+#[test]
+fn of_a_tail() {
+    for k in 1..=12 {
+        let length = LENGTHS[k as usize - 1];
+        for more in [1, 2, 8, 63, 64, 65, 70, 4096, 100_000] {
+            let mut rom = vec![0; length + more];
+            build(k, &mut rom).unwrap();
+            let last = 8 * more - 1;
+            for bit in (0..8 * more).filter(|bit| more <= 70 || [0, 1, last / 2, last].contains(bit)) {
+                let at = length + bit / 8;
+                rom[at] ^= 0x80 >> (bit % 8);
+                assert_eq!(said(check(k, &rom)), Err((7, at as u64)), "k = {k}, {more} bytes more, bit {bit}");
+                let end = rom[length + more - 1];
+                rom[length + more - 1] |= 0x10; // a wrong byte behind it, or the same
+                assert_eq!(said(check(k, &rom)), Err((7, at as u64)), "k = {k}, {more} bytes more, bit {bit} and the last byte");
+                rom[length + more - 1] = end;
+                rom[length - 1] ^= 1; // the last bit of the last word
+                assert_eq!(said(check(k, &rom)), Err((6, (1 << k) - 1)), "k = {k}, {more} bytes more, bit {bit} and the last word");
+                rom[length - 1] ^= 1;
+                rom[at] = 0;
+            }
+            assert_eq!(said(check(k, &rom)), Ok(()), "k = {k}, {more} bytes more");
+        }
+    }
 }
 
 #[test]
@@ -182,6 +214,7 @@ fn limits_by_name() {
 #[test]
 fn in_words() {
     let two = [0x02, 0x75, 0x8B];
+    let tail = [0x02, 0x75, 0x8A, 0x00, 0x01];
     let met = [
         (check(0, &two).unwrap_err(), Refusal::Precision, 1, "refusal 1: the precision is below 1 or above 12"),
         (check(2, &[]).unwrap_err(), Refusal::ShortBuffer, 2, "refusal 2: the buffer is shorter than the image"),
@@ -189,6 +222,7 @@ fn in_words() {
         (reciprocal(2, &two, 0, 1).unwrap_err(), Refusal::FractionBits, 4, "refusal 4: the fraction bits are fewer than 1 or more than 63"),
         (reciprocal(2, &two, 7, 127).unwrap_err(), Refusal::NotNormalised, 5, "refusal 5: the operand is not from 2^n to 2^(n+1) - 1"),
         (check(2, &two).unwrap_err(), Refusal::WrongWord, 6, "refusal 6 at node 3: the word is not the construction's"),
+        (check(2, &tail).unwrap_err(), Refusal::TailNotZero, 7, "refusal 7 at byte 4: a byte past the image is not zero"),
     ];
     for (refused, refusal, number, text) in met {
         assert_eq!((refused.refusal(), refused.number(), refusal.number()), (refusal, number, number));

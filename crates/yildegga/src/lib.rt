@@ -21,7 +21,7 @@ pub extern "C" fn yildegga_image_length(k: u32) -> usize
     Precision(k).image_length()
 }
 
-// Writes the image of precision k at the front of the buffer.
+// Writes the image of precision k at the front of the buffer, and zeros behind it to the end.
 #[no_mangle]
 pub extern "C" fn yildegga_build(k: u32, image: &mut [u8]) -> Done
     ensures { λ r. ⌜ r ≡ done (buildOutcome k (now (image .entry))) ⌝ }
@@ -30,7 +30,8 @@ pub extern "C" fn yildegga_build(k: u32, image: &mut [u8]) -> Done
     building::build(Precision(k), image)
 }
 
-// Whether every word of the image is the construction's; the place of refusal 6 is the lowest node of a wrong word.
+// Whether every word of the image is the construction's and the bytes past it are zero. The place of refusal 6 is the lowest node of a wrong word, that
+// of refusal 7 the lowest byte past the image that is not zero.
 #[no_mangle]
 pub extern "C" fn yildegga_check(k: u32, image: &[u8]) -> Done
     ensures { λ r. ⌜ r ≡ done (checkOutcome k (now (image .entry))) ⌝ }

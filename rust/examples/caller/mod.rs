@@ -6,9 +6,9 @@ use std::str::FromStr;
 
 use yildegga::Refused;
 
-/// The library turned a call back, or found a wrong word.
+/// The library turned a call back, or found a wrong word or tail.
 pub const TURNED_BACK: u8 = 1;
-/// The arguments, the input, a file or the output did not allow it.
+/// The arguments, the memory, the input, a file or the output did not allow it.
 pub const NOT_CALLED: u8 = 2;
 
 /// A number that is written in decimal digits alone, no sign and no space.

@@ -26,7 +26,7 @@ compile_error!("libyildegga.a is made for Linux on x86-64");
 pub struct Answer {
     /// 0 where the call is served, else the number of the refusal.
     pub number: u32,
-    /// The lowest node whose word is wrong in refusal 6, else 0.
+    /// The lowest node whose word is wrong in refusal 6, the lowest byte past the image that is not zero in refusal 7, else 0.
     pub place: u64,
     /// The node in table units, the reciprocal in ulps, or 0.
     pub value: u64,
@@ -67,14 +67,14 @@ pub fn image_length(k: u32) -> usize {
     unsafe { yildegga_image_length(k) }
 }
 
-/// Writes the image of precision k at the front of the buffer.
+/// Writes the image of precision k at the front of the buffer, and zeros behind it to the end.
 #[inline]
 pub fn build(k: u32, image: &mut [u8]) -> Answer {
     // SAFETY: pointer and length are those of one slice, which is lent for writing until the call returns.
     unsafe { yildegga_build(k, image.as_mut_ptr(), image.len()) }
 }
 
-/// Whether every word of the image is the construction's.
+/// Whether every word of the image is the construction's and every byte past it is zero.
 #[inline]
 pub fn check(k: u32, image: &[u8]) -> Answer {
     // SAFETY: pointer and length are those of one slice.
