@@ -70,9 +70,9 @@ def units_apart(compiler, error):
 # ---- the calls
 
 CONSTANTS = {"SERVED": 0, "PRECISION": 1, "SHORT_BUFFER": 2, "NODE_NUMBER": 3, "FRACTION_BITS": 4, "NOT_NORMALISED": 5, "WRONG_WORD": 6,
-             "LEAST_PRECISION": 1, "GREATEST_PRECISION": 12, "LONGEST_IMAGE": 13312, "LEAST_FRACTION_BITS": 1, "MOST_FRACTION_BITS": 63,
-             "TABLE_UNITS_IN_ULP": 4}  # as document 01 has them, and Q-1 the fewest fraction bits
-NUMBERS = {"build": {0, 1, 2}, "check": {0, 1, 2, 6}, "node": {0, 1, 2, 3, 6}, "reciprocal": {0, 1, 2, 4, 5, 6}}
+             "TAIL_NOT_ZERO": 7, "LEAST_PRECISION": 1, "GREATEST_PRECISION": 12, "LONGEST_IMAGE": 13312, "LEAST_FRACTION_BITS": 1,
+             "MOST_FRACTION_BITS": 63, "TABLE_UNITS_IN_ULP": 4}  # as document 01 has them, Q-1 the fewest fraction bits, and Q-2 refusal 7
+NUMBERS = {"build": {0, 1, 2}, "check": {0, 1, 2, 6, 7}, "node": {0, 1, 2, 3, 6}, "reciprocal": {0, 1, 2, 4, 5, 6}}
 
 
 @functools.cache
@@ -88,11 +88,12 @@ def calls_printed():
     return well(built("calls"), "64")
 
 
-def lent(k, count, at, mask):
-    """The bytes that tests/c/calls.c lends: the image of k where it has room, one byte of it damaged; all bytes past it are A5."""
+def lent(k, count, *damages):
+    """The bytes that tests/c/calls.c lends: a full ROM of k where the image has room, else bytes that are A5; one byte or two damaged."""
     buffer = bytearray(reference.call_build(k, b"\xa5" * count)[1])
-    if mask:
-        buffer[at] ^= mask
+    for at, mask in zip(damages[::2], damages[1::2]):
+        if mask:
+            buffer[at] ^= mask
     return bytes(buffer)
 
 
@@ -199,10 +200,11 @@ def memory_checked():
 
 
 def past_image():
-    """No byte past the image is read or written, where the buffer is longer."""
-    calls = 12 * 2 + 4 * sum(2 ** k for k in range(1, 13))
+    """The builder and the check take the buffer to its last byte, with 21 tails at each precision, one of them empty, and touch nothing
+    behind it; the other calls touch no byte past the image, where the buffer is longer."""
+    calls = 12 * (2 + 20 * 5) + 4 * sum(2 ** k for k in range(1, 13))
     found = well(built("past_image"))
-    return None if found == f"{calls} of {calls}\n" else f"served were {found}"
+    return None if found == f"{calls} of {calls}\n" else f"as they should were {found}"
 
 
 # ---- make
@@ -274,7 +276,7 @@ def tests():
     yield "c: the constant nodes of precision 8", constant_nodes
     yield "c: every call around every limit, between guard bytes, by the reference", calls_compared
     yield "c: every call around every limit, under valgrind", memory_checked
-    yield "c: no call reads or writes past the image", past_image
+    yield "c: the builder and the check take the buffer to its end, and the other calls no more than the image", past_image
     yield "c: make install, and pkg-config finds it", installed
     yield "c: make install with DESTDIR and LIBDIR, and make uninstall", installed_elsewhere
     yield "c: make clean, and make after it", clean

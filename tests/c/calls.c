@@ -2,8 +2,8 @@
  *
  *   calls GUARD     the lent bytes stand in a heap block between GUARD bytes before and GUARD after
  *
- * After each call the whole block must be as it was before, guard bytes too, except for the image that was built. With GUARD 0 the
- * block is the lent bytes alone, for a memory checker to see what a call reads and writes beside them. */
+ * After each call the whole block must be as it was before, guard bytes too, except for the lent bytes of a build that was served. With
+ * GUARD 0 the block is the lent bytes alone, for a memory checker to see what a call reads and writes beside them. */
 #include <inttypes.h>
 #include <stdio.h>
 #include <stdlib.h>
@@ -80,7 +80,7 @@ static yildegga_done build(uint32_t k)
 {
     remember();
     yildegga_done answer = yildegga_build(k, lent, length);
-    see_kept("build", k, answer.number == YILDEGGA_SERVED ? yildegga_image_length(k) : 0);
+    see_kept("build", k, answer.number == YILDEGGA_SERVED ? length : 0);
     return answer;
 }
 
@@ -112,7 +112,7 @@ static void reciprocals(uint32_t k, uint32_t n, uint64_t x)
 
 /* ---- the cases */
 
-/* The calls on the lent bytes. `at` is a byte of the image that may be damaged. */
+/* The calls on the lent bytes. `at` is a byte that may be damaged. */
 static void calls_at(uint32_t k, size_t at)
 {
     remember();
@@ -140,25 +140,43 @@ static void calls_at(uint32_t k, size_t at)
     bytes(0, length);
 }
 
+/* A byte that is damaged, and another one; neither where the mask is 0. */
+struct damage { size_t at; uint8_t mask; size_t and_at; uint8_t and_mask; };
+
+static void damaged(uint32_t k, size_t count, struct damage damage)
+{
+    printf("lent %" PRIu32 " %zu %zu %u %zu %u\n", k, count, damage.at, (unsigned)damage.mask, damage.and_at, (unsigned)damage.and_mask);
+    lend(count);
+    build(k);
+    if (damage.mask)
+        lent[damage.at] ^= damage.mask;
+    if (damage.and_mask)
+        lent[damage.and_at] ^= damage.and_mask;
+    calls_at(k, damage.at);
+    take_back();
+}
+
 static void cases(uint32_t k)
 {
     size_t image = yildegga_image_length(k);
     size_t whole = image ? image : YILDEGGA_LONGEST_IMAGE;
-    size_t counts[] = {0, whole - 1, whole, whole + 1, whole + 60};
+    size_t counts[] = {0, whole - 1, whole, whole + 1, whole + 60, whole + 130};
     for (size_t each = 0; each < COUNT(counts); each++) {
-        if (each && counts[each] == 0)
+        size_t count = counts[each];
+        if (each && count == 0)
             continue; /* the image of precision 1 is one byte, and the buffer of none was had */
-        struct { size_t at; uint8_t mask; } damages[] = {
-            {0, 0}, {0, 0x80}, {whole / 3, 0x10}, {whole / 2, 0x01}, {whole - 1, 0x01}, {whole - 1, 0x80}};
-        for (size_t which = 0; which < (counts[each] < image || !image ? 1 : COUNT(damages)); which++) {
-            printf("lent %" PRIu32 " %zu %zu %u\n", k, counts[each], damages[which].at, (unsigned)damages[which].mask);
-            lend(counts[each]);
-            build(k);
-            if (damages[which].mask)
-                lent[damages[which].at] ^= damages[which].mask;
-            calls_at(k, damages[which].at);
-            take_back();
-        }
+        damaged(k, count, (struct damage){0, 0, 0, 0});
+        if (!image || count < image)
+            continue;
+        struct damage words[] = {{0, 0x80, 0, 0}, {whole / 3, 0x10, 0, 0}, {whole / 2, 0x01, 0, 0}, {whole - 1, 0x01, 0, 0}, {whole - 1, 0x80, 0, 0}};
+        for (size_t which = 0; which < COUNT(words); which++)
+            damaged(k, count, words[which]);
+        if (count == image)
+            continue;
+        struct damage tails[] = {{whole, 0x80, 0, 0}, {(whole + count) / 2, 0x10, 0, 0}, {count - 1, 0x01, 0, 0}, {whole, 0x01, count - 1, 0x02},
+                                 {whole - 1, 0x01, whole, 0x80}, {0, 0x80, count - 1, 0x01}}; /* the last two with a wrong word */
+        for (size_t which = 0; which < COUNT(tails); which++)
+            damaged(k, count, tails[which]);
     }
 }
 
@@ -206,6 +224,7 @@ static void constants(void)
     CONSTANT(FRACTION_BITS);
     CONSTANT(NOT_NORMALISED);
     CONSTANT(WRONG_WORD);
+    CONSTANT(TAIL_NOT_ZERO);
     CONSTANT(LEAST_PRECISION);
     CONSTANT(GREATEST_PRECISION);
     CONSTANT(LONGEST_IMAGE);

@@ -1,5 +1,5 @@
 /* Uses every name of the header, in C and in C++, with all that a compiler warns of counting as an error. It ends with status 0
-   where the calls serve at precision 2 as document 01 has it, and an operand of one fraction bit too. */
+   where the calls serve at precision 2 as document 01 has it, and an operand of one fraction bit and a full ROM of eight bytes too. */
 #include <yildegga.h>
 
 static uint8_t image[YILDEGGA_IMAGE_LENGTH(2)];
@@ -19,6 +19,7 @@ static int place_has_a_meaning(uint32_t number)
     case YILDEGGA_NOT_NORMALISED:
         return 0;
     case YILDEGGA_WRONG_WORD:
+    case YILDEGGA_TAIL_NOT_ZERO:
         return 1;
     default:
         return -1;
@@ -66,5 +67,19 @@ int main(void)
     given = yildegga_reciprocal(k, image, sizeof image, YILDEGGA_MOST_FRACTION_BITS, UINT64_MAX);
     if (given.value.count != 16)
         return 10;
+
+    uint8_t rom[] = {1, 2, 3, 4, 5, 6, 7, 8};
+    const uint8_t full[] = {0x02, 0x75, 0x8A, 0, 0, 0, 0, 0};
+    done = yildegga_build(k, rom, sizeof rom);
+    for (size_t at = 0; at < sizeof rom; at++)
+        if (rom[at] != full[at])
+            return 11;
+    done = yildegga_check(k, rom, sizeof rom);
+    if (done.number != YILDEGGA_SERVED)
+        return 12;
+    rom[7] = 1;
+    done = yildegga_check(k, rom, sizeof rom);
+    if (done.number != YILDEGGA_TAIL_NOT_ZERO || place_has_a_meaning(done.number) != 1 || done.place != 7)
+        return 13;
     return 0;
 }
