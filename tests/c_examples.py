@@ -2,14 +2,16 @@
 import functools
 import os
 import random
+import re
 
 import reference
 from c_build import C_WARNINGS, ROOT, files, make, pkg_config, prefix, room, run, well
-from examples import blocks, commands_print, lines_of, proof
+from examples import blocks, commands_print, full_rom, lines_of, long_roms, proof, sizes, without_end
 
 EXAMPLES = ["order_image", "proofread", "reciprocals"]
 SANITIZED = 77  # the status of a program that a sanitizer has stopped
-WITH = {**os.environ, "ASAN_OPTIONS": f"exitcode={SANITIZED}:detect_leaks=0", "UBSAN_OPTIONS": f"exitcode={SANITIZED}"}
+WITH = {**os.environ, "ASAN_OPTIONS": f"exitcode={SANITIZED}:detect_leaks=0:allocator_may_return_null=1",
+        "UBSAN_OPTIONS": f"exitcode={SANITIZED}"}
 
 
 @functools.cache
@@ -22,10 +24,15 @@ def example(name):
     return program
 
 
+def own_words(said):
+    """What an example says on standard error, without what a sanitizer adds where memory is refused."""
+    return re.sub(r"^==\d+==WARNING: AddressSanitizer failed to allocate 0x\w+ bytes\n", "", said, flags=re.M)
+
+
 def ask(name, *words, **more):
     """The status of an example, what it prints, and what it says on standard error."""
     done = run(example(name), *words, env=WITH, timeout=60, **more)
-    return done.returncode, done.stdout.decode(), done.stderr.decode()
+    return done.returncode, done.stdout.decode(), own_words(done.stderr.decode())
 
 
 def mask_file(data):
@@ -58,15 +65,20 @@ def ordered():
         found = ask("order_image", str(k), path)
         if found != (0, f"{k} {reference.LENGTHS[k - 1]}\n", "") or path.read_bytes() != reference.image(k):
             return f"precision {k}: {found}"
+        for size in sizes(k):
+            found = ask("order_image", str(k), path, str(size))
+            if found != (0, f"{k} {size}\n", "") or path.read_bytes() != full_rom(k, size):
+                return f"precision {k}, a ROM of {size} bytes: {found}"
     return None
 
 
 def proofread():
-    """Right images, each single bit of that of precision 2 wrong, some bits of each, and files that hold something else."""
+    """Right images, each single bit of that of precision 2 wrong, some bits of each, tails, and files that hold something else."""
     rng = random.Random(4)
-    masks = [(2, bytes.fromhex("02758A")), (2, bytes(3)), (12, bytes(20000)), (1, b"\x06" * 20000), (3, b"\xff" * 8)]
+    masks = [(2, bytes.fromhex("02758A")), (2, bytes(3)), (12, bytes(20000)), (1, b"\x06" * 20000), (3, b"\xff" * 8),
+             *((2, bytes.fromhex(text)) for text in ("02758A00", "02758A0001", "02758A01", "02758B01", "02758B00"))]
     for k in range(1, 13):
-        masks += [(k, reference.image(k)), (k, reference.image(k) + b"\0")]
+        masks += [(k, reference.image(k) + tail) for tail in (b"", b"\0", b"\x01", bytes(99) + b"\x80", b"\x40" + bytes(99))]
         bits = range(24) if k == 2 else [0, 8 * len(reference.image(k)) - 1, *rng.choices(range(8 * len(reference.image(k))), k=4)]
         for bit in bits:
             data = bytearray(reference.image(k))
@@ -76,8 +88,21 @@ def proofread():
         found, expected = ask("proofread", str(k), mask_file(data)), (*proof(k, data), "")
         if found != expected:
             return f"precision {k}, {data[:20].hex()}: {found}, expected {expected}"
-    third = ask("proofread", "2", mask_file(bytes.fromhex("02758B")))[1]
-    return None if third == "wrong word at node 3, bytes 2 to 2: 8B\nshould be 8A: node 3 is 74 table units\n" else third
+    word = ask("proofread", "2", mask_file(bytes.fromhex("02758B01")))[1]
+    tail = ask("proofread", "2", mask_file(bytes.fromhex("02758A0001")))[1]
+    if word != "wrong word at node 3, bytes 2 to 2: 8B\nshould be 8A: node 3 is 74 table units\n":
+        return word
+    return None if tail == "wrong tail at byte 4: 01\nshould be 00: the image is bytes 0 to 2\n" else tail
+
+
+def proofread_long():
+    """Files past the longest image, named and through a pipe, and one without end."""
+    for k, data, (status, lines) in long_roms():
+        for found in ask("proofread", str(k), mask_file(data)), ask("proofread", str(k), "/dev/stdin", stdin=None, input=data):
+            if found != (status, lines, ""):
+                return f"precision {k}, {len(data)} bytes: {found}, expected {status}, {lines!r}"
+    make("examples")
+    return without_end(ROOT / "target" / "examples" / "proofread")  # no sanitizer, which needs room of its own
 
 
 def reciprocals():
@@ -115,12 +140,22 @@ def mistakes():
             yield name, [text, *rest], b"", 1, f"{name}: refusal 1: "
         yield name, [], b"", 2, f"{name}: usage: {name} K "
         yield name, ["2"], b"", 2, f"{name}: usage: {name} K "
+    yield "order_image", ["2", new, "4", "4"], b"", 2, "order_image: usage: order_image K FILE [SIZE]"
+    yield "proofread", ["2", right, right], b"", 2, "proofread: usage: proofread K FILE"
+    for text in NO_NUMBER:
+        if "4294967298" != text:
+            yield "order_image", ["2", new, text], b"", 2, "order_image: SIZE is not a number below 2^64"
+    for k, size in ("1", "0"), ("2", "0"), ("2", "2"), ("2", "0002"), ("12", "13311"):
+        yield "order_image", [k, new, size], b"", 1, "order_image: refusal 2: the buffer is shorter than the image"
+    for k, size in ("0", "0"), ("13", "0"), ("13", "65536"):
+        yield "order_image", [k, new, size], b"", 1, "order_image: refusal 1: "
+    for size in 2 ** 63 - 1, 2 ** 63, 2 ** 64 - 1:
+        yield "order_image", ["2", new, str(size)], b"", 2, "order_image: out of memory"
     for name in ("order_image", "proofread"):
-        yield name, ["2", right, right], b"", 2, f"{name}: usage: {name} K FILE"
         yield name, ["2", room() / "none" / "mask"], b"", 2, f"{name}: {room()}/none/mask: No such file or directory"
         yield name, ["2", room()], b"", 2, f"{name}: {room()}: Is a directory"
-    for k in "2", "12":  # the one is written at the end only, the other before it
-        yield "order_image", [k, "/dev/full"], b"", 2, "order_image: /dev/full: No space left on device"
+    for words in ["2", "/dev/full"], ["12", "/dev/full"], ["2", "/dev/full", "65536"]:  # the first is written at the end only, the others before it
+        yield "order_image", words, b"", 2, "order_image: /dev/full: No space left on device"
     for k, length in (2, 0), (2, 2), (12, 13311):
         short = room() / f"short{length}"
         short.write_bytes(reference.image(k)[:length])
@@ -138,7 +173,7 @@ def mistakes_told():
         found, printed, said = ask(name, *words, stdin=None, input=given)
         if found != status or not said.startswith(beginning) or said.count("\n") != 1 or printed:
             return f"{name} {words}, input {given[:20]!r}: status {found}, {printed[:100]!r}, {said[:200]!r}; expected {status}, {beginning!r}"
-    return "a refused precision makes a file" if (room() / "new").exists() else None
+    return "a call that is turned back makes a file" if (room() / "new").exists() else None
 
 
 def mistake_after_work():
@@ -150,8 +185,10 @@ def mistake_after_work():
 
 def no_room_for_output():
     """Standard output that cannot be written, and standard input that cannot be read, are told."""
+    worn = room() / "worn"
+    worn.write_bytes(bytes.fromhex("02758A01"))
     for name, words in (("order_image", ["2", room() / "ordered"]), ("proofread", ["2", mask_file(bytes.fromhex("02758B"))]),
-                        ("reciprocals", ["2", "7", "135"])):
+                        ("proofread", ["2", worn]), ("reciprocals", ["2", "7", "135"])):
         done = run("sh", "-c", 'exec "$0" "$@" >/dev/full', example(name), *words, env=WITH)
         if done.returncode != 2 or done.stderr != f"{name}: No space left on device\n".encode():
             return f"{name}: {done}"
@@ -180,8 +217,9 @@ def page_commands():
 
 def tests():
     yield "c: make examples", made
-    yield "c: order_image writes the image of each precision", ordered
-    yield "c: proofread names the first wrong word", proofread
+    yield "c: order_image writes the image of each precision, and full ROMs up to some MiB", ordered
+    yield "c: proofread names the first wrong word, or the first wrong byte past the image", proofread
+    yield "c: proofread reads files past the longest image whole", proofread_long
     yield "c: reciprocals gives those of the reference", reciprocals
     yield "c: a caller's mistake is told, with a status", mistakes_told
     yield "c: reciprocals stops at an operand that is no number", mistake_after_work

@@ -9,7 +9,7 @@ import tempfile
 
 import reference
 from archives import archive
-from examples import commands_print, lines_of, proof
+from examples import commands_print, full_rom, lines_of, long_roms, proof, sizes, without_end
 
 ROOT = pathlib.Path(__file__).resolve().parent.parent
 RUST = ROOT / "rust"
@@ -234,7 +234,7 @@ def differs(words, done, status, output):
 
 
 def ordered():
-    """The image of each precision, in a file of just its bytes; that of precision 2 is 02 75 8A."""
+    """The image of each precision, in a file of just its bytes, and full ROMs of it; that of precision 2 is 02 75 8A."""
     with tempfile.TemporaryDirectory() as folder:
         for k in range(1, 13):
             file = pathlib.Path(folder) / f"image {k}"
@@ -242,13 +242,18 @@ def ordered():
             why = differs(["order_image", k], example(["order_image", str(k), file]), 0, f"{k} {reference.LENGTHS[k - 1]}\n")
             if why or file.read_bytes() != reference.image(k):
                 return why or f"precision {k}: {file.read_bytes()[:40].hex(' ')}"
+            rom = pathlib.Path(folder) / "rom"
+            for size in sizes(k):
+                why = differs(["order_image", k, size], example(["order_image", str(k), rom, str(size)]), 0, f"{k} {size}\n")
+                if why or rom.read_bytes() != full_rom(k, size):
+                    return why or f"precision {k}, {size} bytes: {rom.read_bytes()[:40].hex(' ')}"
         return None if (pathlib.Path(folder) / "image 2").read_bytes() == bytes.fromhex("02758A") else "the image of precision 2"
 
 
 def proofread():
-    """Files of each precision, right, longer, and with some bits damaged; the three that document 01 names among them."""
+    """Files of each precision, right, with tails, and with some bits damaged; those that document 01 and Q-2 name among them."""
     rng = random.Random(1)
-    files = [(2, bytes.fromhex(text)) for text in ("02758A", "02758B", "000000", "06758A")]
+    files = [(2, bytes.fromhex(text)) for text in ("02758A", "02758B", "000000", "06758A", "02758A00", "02758A0001", "02758B01")]
     for k in range(1, 13):
         right = reference.image(k)
         files += [(k, right), (k, right + b"\xff"), (k, right + bytes(20000))]
@@ -264,7 +269,22 @@ def proofread():
             why = differs(["proofread", k, data[:20].hex(" ")], example(["proofread", str(k), file]), *proof(k, data))
             if why or file.read_bytes() != data:
                 return why or f"precision {k}: the file was changed"
-    return None if len({proof(k, data)[0] for k, data in files}) == 2 else "the files are all right, or all wrong"
+    met = {proof(k, data)[1][:11] for k, data in files}
+    return None if met == {"right\n", "wrong word ", "wrong tail "} else f"only {met} were met"
+
+
+def proofread_long():
+    """Files past the longest image, named and through a pipe, and one without end."""
+    with tempfile.TemporaryDirectory() as folder:
+        file = pathlib.Path(folder) / "mask"
+        for k, data, expected in long_roms():
+            file.write_bytes(data)
+            what = ["proofread", k, len(data)]
+            why = (differs(what, example(["proofread", str(k), file]), *expected)
+                   or differs(what, example(["proofread", str(k), "/dev/stdin"], stdin=data), *expected))
+            if why:
+                return why
+    return without_end(examples() / "proofread")
 
 
 def reciprocals():
@@ -297,7 +317,8 @@ USAGE = "usage: "
 RANGE = "refusal 1: the precision is below 1 or above 12"
 SHORT = "refusal 2: the buffer is shorter than the image"
 MISTAKES = [
-    *((name, words, b"", 2, USAGE) for name in ("order_image", "proofread") for words in ([], ["2"], ["2", "FOLDER/image", "3"])),
+    *((name, words, b"", 2, USAGE) for name, more in (("order_image", ["3", "3"]), ("proofread", ["3"]))
+      for words in ([], ["2"], ["2", "FOLDER/image", *more])),
     *(("reciprocals", words, b"", 2, USAGE) for words in ([], ["2"])),
     *((name, [k, "FOLDER/new"], b"", 2, "K is not a number") for name in ("order_image", "proofread")
       for k in ("", "two", "-1", "+2", "2.0", " 2", "0x2", "4294967296", b"\xff")),
@@ -306,6 +327,12 @@ MISTAKES = [
     *(("order_image", [k, "FOLDER/new"], b"", 1, RANGE) for k in ("0", "13", "4294967295")),
     *(("proofread", [k, "FOLDER/image"], b"", 1, RANGE) for k in ("0", "13", "4294967295")),
     *(("reciprocals", [k, "7", "128"], b"", 1, RANGE) for k in ("0", "13", "4294967295")),
+    *(("order_image", ["2", "FOLDER/new", size], b"", 2, "SIZE is not a number below 2^64")
+      for size in ("", "four", "-4", "+4", "4.0", " 4", "0x4", "18446744073709551616", b"\xff")),
+    *(("order_image", [k, "FOLDER/new", size], b"", 1, SHORT) for k, size in (("1", "0"), ("2", "0"), ("2", "2"), ("2", "0002"), ("12", "13311"))),
+    *(("order_image", [k, "FOLDER/new", size], b"", 1, RANGE) for k, size in (("0", "0"), ("13", "0"), ("13", "65536"))),
+    *(("order_image", ["2", "FOLDER/new", str(size)], b"", 2, "out of memory") for size in (2 ** 63 - 1, 2 ** 63, 2 ** 64 - 1)),
+    ("order_image", ["2", "/dev/full", "65536"], b"", 2, "No space left"),
     ("order_image", ["2", "FOLDER"], b"", 2, "directory"),
     ("order_image", ["2", ""], b"", 2, "No such file"),
     ("order_image", ["2", "FOLDER/none/new"], b"", 2, "No such file"),
@@ -348,7 +375,9 @@ def output_closed():
     with tempfile.TemporaryDirectory() as folder:
         file = pathlib.Path(folder) / "image"
         file.write_bytes(reference.image(2))
-        for words in (["order_image", "2", file], ["proofread", "2", file], ["reciprocals", "2", "7", "128"]):
+        worn = pathlib.Path(folder) / "worn"
+        worn.write_bytes(reference.image(2) + b"\1")
+        for words in (["order_image", "2", file], ["proofread", "2", file], ["proofread", "2", worn], ["reciprocals", "2", "7", "128"]):
             with open("/dev/full", "wb") as full:
                 done = subprocess.run([examples() / words[0], *words[1:]], stdin=subprocess.DEVNULL, stdout=full, stderr=subprocess.PIPE)
             reader, writer = os.pipe()
@@ -376,8 +405,9 @@ def tests():
     for name, (code, _) in REFUSED.items():
         yield f"rust: the compiler {'refuses' if code else 'accepts'} {name}", lambda name=name: compiled(name)
     yield "rust: the archive is found, linked anew where it changed, and asked for where it is absent", archive_found
-    yield "rust: order_image writes each image", ordered
-    yield "rust: proofread names the first wrong word", proofread
+    yield "rust: order_image writes each image, and full ROMs up to some MiB", ordered
+    yield "rust: proofread names the first wrong word, or the first wrong byte past the image", proofread
+    yield "rust: proofread reads files past the longest image whole", proofread_long
     yield "rust: reciprocals are the reference's", reciprocals
     yield f"rust: {len(MISTAKES)} mistakes in calling the examples give a message and an exit status", mistakes
     yield "rust: an example whose output cannot be written says so", output_closed

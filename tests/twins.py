@@ -10,6 +10,7 @@ import tempfile
 import c_examples
 import reference
 import rust_side
+from examples import MIB, full_rom
 
 ROOT = pathlib.Path(__file__).resolve().parent.parent
 
@@ -19,6 +20,15 @@ FILES = {
     "damaged": bytes.fromhex("02758B"), "first wrong": bytes.fromhex("82758A"), "zeros": bytes(3), "three": reference.image(3),
     "twelve": reference.image(12), "twelve, longer": reference.image(12) + bytes(20000), "twelve, short": reference.image(12)[:-1],
     "twelve, damaged": reference.image(12)[:-1] + bytes([reference.image(12)[-1] ^ 1]),
+    "full": reference.image(2) + bytes(5), "tail, first": reference.image(2) + b"\1" + bytes(4),
+    "tail, last": reference.image(2) + bytes(4) + b"\x80", "word and tail": bytes.fromhex("02758B01"),
+    "twelve, tail": reference.image(12) + b"\1", "one": reference.image(1) + bytes(1),
+}
+# Those that stand there only where they are named.
+LONG = {
+    "long": full_rom(2, 65536), "long, tail": full_rom(2, 65535) + b"\1", "twelve, long": full_rom(12, 65536),
+    "some MiB": full_rom(2, 3 * MIB + 5), "some MiB, tail": full_rom(2, 3 * MIB + 5) + b"\xff" + bytes(7),
+    "some MiB, word and tail": bytes([0x02, 0x75, 0x8B]) + bytes(3 * MIB) + b"\xff",
 }
 NO_NUMBER = ["", " ", "x", "-1", "-0", "+", "+0", "+2", "++2", " 2", "2 ", "2\n", "2x", "0x2", "2.0", "2e0", "2_0", "2,0", "٢", b"\xff",
              "18446744073709551616", "18446744073709551618", "9" * 20, "1" + "0" * 20, "9" * 400]
@@ -27,21 +37,34 @@ PRECISIONS = ["0", "1", "2", "002", "0" * 400 + "2", "3", "12", "13", "258", "42
 
 
 def order_image():
-    for words in ([], ["2"], ["2", "new", "other"], ["", ""], ["2", ""], ["new", "2"], ["2", "none/new"], ["2", "."], ["2", b"\xff/new"],
-                  ["2", b"\xff"], ["2", "n" * 300], ["2", "right"], ["2", "twelve, longer"], ["2", "/dev/full"], ["12", "/dev/full"],
-                  ["13", "none/new"], ["13", "right"], ["+2", "right"], ["--help"], ["--help", "new"]):
+    for words in ([], ["2"], ["", ""], ["2", ""], ["new", "2"], ["2", "none/new"], ["2", "."], ["2", b"\xff/new"], ["2", b"\xff"],
+                  ["2", "n" * 300], ["2", "right"], ["2", "twelve, longer"], ["2", "/dev/full"], ["12", "/dev/full"],
+                  ["13", "none/new"], ["13", "right"], ["+2", "right"], ["--help"], ["--help", "new"],
+                  ["2", "new", "4", "4"], ["2", "new", "other"], ["2", "4", "new"], ["", "", ""], ["2", "", "4"], ["2", "right", "2"],
+                  ["2", "right", "x"], ["2", "right", "18446744073709551615"], ["2", "/dev/full", "65536"], ["2", "none/new", "4"],
+                  ["2", "none/new", "2"], ["2", "twelve, longer", "4"], ["2", "short", "65536"], ["13", "new", "18446744073709551615"]):
         yield words, b""
     for k in PRECISIONS + NO_NUMBER + WIDE:
         yield [k, "new"], b""
+    for size in ["0", "1", "2", "3", "4", "004", "0" * 400 + "4", "13311", "13312", "13313", "65536", str(3 * MIB + 5)]:
+        for k in "1", "2", "12", "13", "x":
+            yield [k, "new", size], b""
+    for size in NO_NUMBER + ["9223372036854775807", "9223372036854775808", "18446744073709551615"]:
+        yield ["2", "new", size], b""
 
 
 def proofread():
     for words in ([], ["2"], ["2", "right", "right"], ["", ""], ["2", ""], ["right", "2"], ["2", "none/right"], ["2", "."], ["2", b"\xff"],
-                  ["2", "n" * 300], ["2", "/dev/zero"], ["2", "/dev/null"], ["13", "none"], ["13", "empty"], ["+2", "none"], ["--help"]):
+                  ["2", "n" * 300], ["2", "/dev/null"], ["13", "none"], ["13", "empty"], ["+2", "none"], ["--help"]):
         yield words, b""
     for k in PRECISIONS:
         for file in FILES:
             yield [k, file], b""
+    for k in "2", "12", "13":
+        for file in LONG:
+            yield [k, file], b""
+        for data in b"", reference.image(2), full_rom(2, 65536), full_rom(2, 65536) + b"\1", full_rom(12, 70000):
+            yield [k, "/dev/stdin"], data
     for k in NO_NUMBER + WIDE:
         yield [k, "right"], b""
 
@@ -77,11 +100,11 @@ def ran(program, words, **streams):
     """The status of a program in a folder of its own, what it prints, its message, and the files that it leaves."""
     with tempfile.TemporaryDirectory() as name:
         folder = pathlib.Path(name)
-        for file, data in FILES.items():
+        for file, data in (FILES | {file: LONG[file] for file in words if file in LONG}).items():
             (folder / file).write_bytes(data)
         done = subprocess.run([program, *words], cwd=folder, stderr=subprocess.PIPE, timeout=60, env=c_examples.WITH,
                               **{"stdout": subprocess.PIPE, **streams})
-        message = re.sub(r" \(os error \d+\)$", "", done.stderr.decode(errors="replace"), flags=re.M)  # what Rust adds
+        message = re.sub(r" \(os error \d+\)$", "", c_examples.own_words(done.stderr.decode(errors="replace")), flags=re.M)  # what Rust adds
         return done.returncode, done.stdout, message, {os.fsencode(path.name): path.read_bytes() for path in folder.iterdir()}
 
 
@@ -108,6 +131,7 @@ def agree(name, cases):
 def streams_agree():
     """Output that cannot be written, and input that cannot be read, end both with status 2."""
     for name, words in (("order_image", ["2", "new"]), ("proofread", ["2", "right"]), ("proofread", ["2", "damaged"]),
+                        ("proofread", ["2", "tail, first"]),
                         ("reciprocals", ["2", "7", "128"]), ("reciprocals", ["2", "7", "127"]), ("reciprocals", ["2", "7", "128", "x"]),
                         ("reciprocals", ["2", "7", *["128"] * 5000])):
         with open("/dev/full", "wb") as full:
@@ -123,10 +147,10 @@ def streams_agree():
 
 
 def same_words():
-    """The refusals are in the same words, six of them."""
+    """The refusals are in the same words, seven of them."""
     in_c = re.findall(r'^    case YILDEGGA_\w+: return "(.*)";$', (ROOT / "c" / "examples" / "caller.h").read_text(), re.M)
     in_rust = re.findall(r'^            Refusal::\w+ => "(.*)",$', (ROOT / "rust" / "src" / "refusal.rs").read_text(), re.M)
-    return None if in_c == in_rust and len(in_c) == 6 else f"in C {in_c}, in Rust {in_rust}"
+    return None if in_c == in_rust and len(in_c) == 7 else f"in C {in_c}, in Rust {in_rust}"
 
 
 def same_version():
