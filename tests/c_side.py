@@ -207,6 +207,12 @@ def past_image():
     return None if found == f"{calls} of {calls}\n" else f"as they should were {found}"
 
 
+def asked_for():
+    """The archive asks a program for `memset` and for nothing else."""
+    found = set(re.findall(r"^ +U (\w+)$", well("nm", "--undefined-only", archive()), re.M))
+    return None if found == {"memset"} else f"{sorted(found)}"
+
+
 # ---- make
 
 def installed():
@@ -277,6 +283,7 @@ def tests():
     yield "c: every call around every limit, between guard bytes, by the reference", calls_compared
     yield "c: every call around every limit, under valgrind", memory_checked
     yield "c: the builder and the check take the buffer to its end, and the other calls no more than the image", past_image
+    yield "c: the archive calls nothing outside itself but memset", asked_for
     yield "c: make install, and pkg-config finds it", installed
     yield "c: make install with DESTDIR and LIBDIR, and make uninstall", installed_elsewhere
     yield "c: make clean, and make after it", clean

@@ -19,7 +19,8 @@
  *   - The bytes do not overlap the object that takes the answer.
  *   - NULL lends nothing. With length 0 it is turned back like any buffer that is too short, by refusal 1 or 2 (no bytes are shown),
  *     and nothing is read or written through it, since every image has a byte: this is tested, and no proof speaks of it.
- *   - The archive holds code for x86-64 with the System V calling convention, the one of Linux.
+ *   - The archive holds code for x86-64 with the System V calling convention, the one of Linux. It calls memset of the C library, by
+ *     which the compiler has yildegga_build write the zeros, and nothing else outside itself.
  */
 #ifndef YILDEGGA_H
 #define YILDEGGA_H

@@ -13,7 +13,8 @@
 //! - The pointer of an empty slice, which Rust leaves dangling, is never followed: every image has a byte or more, so an empty slice
 //!   is turned back before any byte is read.
 //!
-//! The functions keep no pointer, have no state, call nothing outside the archive and do not unwind; bytes are answered as numbers.
+//! The functions keep no pointer, have no state, call nothing outside the archive but the C library's `memset`, and do not unwind; bytes
+//! are answered as numbers.
 #![deny(missing_docs)]
 #![deny(clippy::undocumented_unsafe_blocks)]
 
