@@ -3,7 +3,7 @@
 use mathlib.Core.Path.{_≡_, refl, sym, ap, _∙_}
 use mathlib.Core.Bool.{Bool, true, false, not}
 use mathlib.Core.List.{List}
-use Prim.Native.Nat.{ℕ, _+_, _*_, _/_, _%_, _^_, _≤_, _<_}
+use Prim.Native.Nat.{ℕ, _+_, _*_, _/_, _%_, _^_, _<_}
 use native.Mathlib.Omega.{arith}
 use lib.Dec.{eqb}
 use borrow.Author.Tests.{eqb-true, eqb-false, eq-eqb, ne-eqb}
@@ -11,7 +11,7 @@ use Rattle.precision.specs.Precision.{wordWidth}
 use Rattle.quotient.specs.Inner.{roundsUp}
 use Rattle.nodes.specs.Nodes.{numerator, leadingOne, decodeUnder}
 use Rattle.nodes.proofs.Nodes.{last-judged}
-use Rattle.packing.specs.Packing.{Bytes, fieldAt, wordAt}
+use Rattle.packing.specs.Packing.{Bytes, fieldAt}
 use Rattle.packing.proofs.Words.{words-high, words-low, word-past}
 use Rattle.layout.specs.Refusals.{wordRefusal}
 use Rattle.image.specs.Image.{plain, wordOf, nodeOf}

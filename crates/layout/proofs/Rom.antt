@@ -9,14 +9,14 @@ use native.Mathlib.Nat.{mul-assoc, mul-add-mod-self-right, zero-add, zero-mod}
 use native.Mathlib.Omega.{arith}
 use lib.ListN.{length, take, drop, getD, getD-replicate, length-append, length-drop, take-append-drop}
 use lib.Pow.{pow-add}
-use lib.Seq.{take-at, drop-at, getD-append-add, getD-drop, ext-getD}
+use lib.Seq.{take-at, getD-append-add, getD-drop, ext-getD}
 use Rattle.bools.proofs.Bools.{clash, below-or-not}
 use Rattle.bools.specs.Lowest.{lowest}
 use Rattle.bools.proofs.Lowest.{lowest-passes, lowest-before, lowest-none}
-use Rattle.packing.specs.Packing.{Bytes, byteCount, fillBits, bytesValue, bitAt}
+use Rattle.packing.specs.Packing.{Bytes, fillBits, bytesValue, bitAt}
 use Rattle.packing.proofs.Bits.{bit-of-filling}
 use Rattle.packing.proofs.Image.{words-front-filled}
-use Rattle.tail.specs.Tail.{bitsFrom, hasOneFrom, zeros, clearedFrom}
+use Rattle.tail.specs.Tail.{hasOneFrom, zeros, clearedFrom}
 use Rattle.tail.proofs.Laws.{none-bits, byte-before, byte-zero, none-zero, one-set}
 use Rattle.tail.proofs.Bits.{one-bit}
 use Rattle.tail.proofs.Writing.{length-zeros, bytes-zeros}
@@ -28,12 +28,9 @@ module _ (t : Layout) (n : ℕ) where
   pub rom-length : lengthOf t ≤ n → length (romOf t n) ≡ n
   rom-length h = length-append (imageOf t) (zeros (n - lengthOf t)) ∙ omega (arith, image-length t, length-zeros (n - lengthOf t), h)
 
-  -- starts with the image, and zeros follow
+  -- and starts with the image
   pub rom-front : take (lengthOf t) (romOf t n) ≡ imageOf t
   rom-front = take-at (imageOf t) (zeros (n - lengthOf t)) (lengthOf t) (image-length t)
-
-  pub rom-rest : drop (lengthOf t) (romOf t n) ≡ zeros (n - lengthOf t)
-  rom-rest = drop-at (imageOf t) (zeros (n - lengthOf t)) (lengthOf t) (image-length t)
 
 -- the image over the front of a buffer, and zeros written behind it, make one
 pub rom-written : (t : Layout) (s : List ℕ) → lengthOf t ≤ length s → clearedFrom (lengthOf t) (imageOf t ++ drop (lengthOf t) s) ≡ romOf t (length s)

@@ -1,7 +1,7 @@
 -- The laws of the nodes over plain numbers: K nodes have words, and H is the leading one that a word leaves out. The numerator is
 -- 2 × H × K. At K = 2^k and H = 2^(2k+a) they are the laws of a table with a guard bits.
 -- Assumes nothing.
-use mathlib.Core.Path.{_≡_, refl, sym, ap, _∙_}
+use mathlib.Core.Path.{_≡_, sym, ap, _∙_}
 use mathlib.Core.Bool.{true}
 use Prim.Native.Nat.{ℕ, zero, suc, _+_, _-_, _*_, _%_, _^_, _≤_, _<_}
 use native.Mathlib.Nat.{le-refl, zero-lt-suc, not-suc-le-zero, add-assoc, mul-le-mul, mul-le-mul-left, mul-le-mul-right, mod-eq-of-lt, mod-eq-sub-mod, mul-mod-left, add-mod-left, lt-of-not-le}

@@ -3,9 +3,9 @@
 use Prim.Native.Nat.{ℕ, suc, _+_, _-_, _*_, _/_, _%_, _^_, _≤_, _<_}
 use mathlib.Core.Path.{_≡_, sym, ap, ap₂, _∙_, subst}
 use mathlib.Core.List.{List, _++_}
-use native.Mathlib.Nat.{add-zero, mod-eq-of-lt, mod-one}
+use native.Mathlib.Nat.{add-zero, mod-eq-of-lt}
 use native.Mathlib.Omega.{arith}
-use lib.ListN.{getD, length, take, drop, take-append-drop, List·getD-append}
+use lib.ListN.{getD, length, take, List·getD-append}
 use lib.Pow.{split, shl-lt, shl-shr, shr-lt, shr-shr}
 use Rattle.packing.specs.Packing.{packed, toBytes, byteCount, fillBits, packedBytes, bytesValue, Bytes, wordAt}
 use Rattle.packing.proofs.Numbers.{packed-lt, packed-digit, packed-unique}
@@ -54,13 +54,6 @@ packed-word w f n j t one h l =
         (sym (List·getD-append (packedBytes w f n) t 0 i (subst (λ (x : ℕ). i < x) (sym (length-packedBytes w f n)) k)))
         (bytes-packedBytes w f n i)
 
--- a byte list that starts with packed words has those words
-pub word-of-front : (w : ℕ) (f : ℕ → ℕ) (n j : ℕ) (s : List ℕ) → 1 ≤ w → ((i : ℕ) → i < n → f i < 2 ^ w)
-    → take (byteCount w n) s ≡ packedBytes w f n → j < n → wordAt w s j ≡ f j
-word-of-front w f n j s one h e l =
-    ap (λ (x : List ℕ). wordAt w x j) (sym (take-append-drop (byteCount w n) s) ∙ ap (λ (x : List ℕ). x ++ drop (byteCount w n) s) e)
-    ∙ packed-word w f n j (drop (byteCount w n) s) one h l
-
 -- right words determine the bytes' number up to the filling
 pub words-number : (w : ℕ) (f : ℕ → ℕ) (n : ℕ) (s : List ℕ) → 1 ≤ w → Bytes s → ((j : ℕ) → j < n → wordAt w s j ≡ f j)
     → bytesValue s 0 (byteCount w n) / 2 ^ fillBits w n ≡ packed w f n
@@ -92,10 +85,3 @@ words-front-filled w f n s one hs fits h none =
         sym (split (bytesValue s 0 (byteCount w n)) (fillBits w n))
         ∙ ap₂ (λ (x y : ℕ). x * 2 ^ fillBits w n + y) (words-number w f n s one hs h) none
         ∙ add-zero (packed w f n * 2 ^ fillBits w n)
-
--- where no bits fill, right words determine the bytes
-pub words-front : (w : ℕ) (f : ℕ → ℕ) (n : ℕ) (s : List ℕ) → 1 ≤ w → Bytes s → byteCount w n ≤ length s → fillBits w n ≡ 0
-    → ((j : ℕ) → j < n → wordAt w s j ≡ f j) → take (byteCount w n) s ≡ packedBytes w f n
-words-front w f n s one hs fits even h =
-    words-front-filled w f n s one hs fits h
-    (ap (λ (x : ℕ). bytesValue s 0 (byteCount w n) % 2 ^ x) even ∙ mod-one (bytesValue s 0 (byteCount w n)))

@@ -31,6 +31,3 @@ field-read-lt s b w = by (leb w widest)
     by : (t : Bool) → cond t (fieldAt s b w) 0 < 2 ^ w
     by true = field-lt s b w
     by false = pow-pos w
-
-pub read-lt : (w : ℕ) (s : List ℕ) (j : ℕ) → wordRead w s j < 2 ^ w
-read-lt w s j = field-read-lt s (j * w) w

@@ -12,7 +12,7 @@ use lib.Pow.{field, mod-pow-add, mod-mod-pow}
 use Rattle.bools.proofs.Bools.{clash, below-or-not}
 use Rattle.bools.proofs.Lowest.{lowest-passes, lowest-before}
 use Rattle.packing.specs.Packing.{bitAt}
-use Rattle.tail.specs.Tail.{bitsFrom, hasOneFrom, firstOneFrom}
+use Rattle.tail.specs.Tail.{hasOneFrom, firstOneFrom}
 use Rattle.tail.proofs.Laws.{bits-none, none-bits}
 
 -- the lowest m bits of a number make 0: each of them is 0

@@ -1,11 +1,11 @@
 -- Bytes that are written one behind the other over a list.
 -- Assumes nothing.
-use mathlib.Core.Path.{_≡_, refl, sym, _∙_, ap}
+use mathlib.Core.Path.{_≡_, sym, _∙_, ap}
 use mathlib.Core.List.{List, [], _∷_, _++_, append-assoc, append-nil}
 use Prim.Native.Nat.{ℕ, zero, suc, _+_, _-_, _≤_, _<_}
 use native.Mathlib.Numerals.{add-one}
 use native.Mathlib.Omega.{arith}
-use lib.ListN.{length, take, drop, set, getD, replicate, replicate-append-replicate, length-append, length-replicate, length-take, length-drop, take-append-drop, drop-of-length-le}
+use lib.ListN.{length, take, drop, set, getD, replicate-append-replicate, length-append, length-replicate, length-take, take-append-drop, drop-of-length-le}
 use lib.Seq.{set-at, drop-cons}
 use Rattle.packing.specs.Packing.{Bytes}
 use Rattle.tail.specs.Tail.{zeros, clearedFrom}

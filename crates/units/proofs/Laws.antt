@@ -1,7 +1,7 @@
 -- One ulp is four table units.
 -- Assumes nothing.
 use mathlib.Core.Path.{_≡_}
-use Prim.Native.Nat.{ℕ, _+_, _*_, _^_}
+use Prim.Native.Nat.{ℕ, _*_, _^_}
 use native.Mathlib.Omega.{arith}
 use lib.Pow.{pow-add, pow-pos}
 use Rattle.units.specs.Units.{tableUnitsInOne, ulpsInOne, tableUnitsInUlp}

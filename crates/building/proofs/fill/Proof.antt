@@ -1,9 +1,9 @@
 -- `building::fill` meets its contract: each turn of its first loop takes a word and gives four bytes where as many wait, and each turn of the second
 -- gives one byte of what is left, by the laws of `Filling`. The measures are the words to come and the bits that wait.
 -- Assumes nothing.
-use mathlib.Core.Path.{_≡_, _∙_, ap}
+use mathlib.Core.Path.{_∙_, ap}
 use mathlib.Core.List.{List}
-use Prim.Native.Nat.{ℕ, _+_, _-_, _*_, _%_, _^_, _≤_, _<_}
+use Prim.Native.Nat.{ℕ, _+_, _-_, _%_, _^_, _<_}
 use native.Mathlib.Nat.{mod-lt}
 use native.Mathlib.Omega.{arith}
 use lib.ListN.{length-set}

@@ -1,7 +1,7 @@
 -- `tail::clear` meets its contract. The loop's invariant: zeros are written from the first byte up to the next one. The measure is the number of
 -- bytes left.
 -- Assumes nothing.
-use mathlib.Core.Path.{_≡_, refl, sym, _∙_, ap}
+use mathlib.Core.Path.{_≡_, refl, _∙_, ap}
 use mathlib.Core.List.{List}
 use Prim.Native.Nat.{ℕ, _+_, _-_, _≤_, _<_}
 use native.Mathlib.Omega.{arith}
