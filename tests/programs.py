@@ -89,14 +89,18 @@ def random_operands(rng, k):
 
 
 def random_line(rng):
-    """A line of a script, or two: mostly small precisions, often an image, often slightly damaged, at any length."""
+    """A line of a script, or a few: mostly small precisions, often an image, often slightly damaged, at any length; a full ROM, and one
+    with a byte of it changed."""
     k = rng.choice([0, 1, 1, 2, 2, 2, 3, 3, 4, 5, 6, 8, 12, 13, 4294967295])
     last = 2 ** k if k <= 12 else 4
     first = rng.choice([0, rng.randint(0, last), last - 1, last, last + 1, rng.randint(0, 2 ** 32 - 1)])
     to = min(first + rng.randint(0, 5), 2 ** 32 - 1)
     size = reference.LENGTHS[k - 1] if reference.in_range(k) else 4
     kind = rng.choice(["hex", "hex", "image", "image", "xor", "xor", "length", "length", "fill", "build", "check", "check", "node",
-                       "node", "word", "rule", "precision", "show", "kept", "invert", "around", "through", "served", "served", "served"])
+                       "node", "word", "rule", "precision", "show", "kept", "invert", "around", "through", "served", "served", "served",
+                       "rom", "rom", "rom"])
+    rom = min(size + rng.choice([1, 2, 63, 64, 65, rng.randint(0, 300), 16384]), 16384)
+    changed = rng.choice([size, rng.randint(size, rom), rom - 1, rom, rng.randrange(rom)])
     return {
         "hex": "hex " + " ".join(f"{rng.randrange(256):02X}" for _ in range(rng.randint(1, 9))),
         "image": f"length {size}\nbuild {k}",
@@ -114,6 +118,7 @@ def random_line(rng):
         "invert": f"invert {random_operands(rng, k)}",
         "around": f"around {random_operands(rng, k)}",
         "through": f"through {random_operands(rng, k)}",
+        "rom": f"length {rom}\nbuild {k}\ncheck {k}\nxor {min(changed, 16383)} {rng.randint(1, 255)}\ncheck {k}\nnode {first} {to} {k}",
         "served": f"length {size}\nbuild {k}\ninvert {random_operands(rng, k)}",
     }[kind]
 
@@ -185,7 +190,7 @@ def bound_table():
 # ---- what the documents say
 
 def document_examples():
-    """The examples and limits of document 01 for the image, and the P that it names, by the reference."""
+    """The examples and limits of document 01 for the image, those of Q-2 among them, and the P that it names, by the reference."""
     nodes = {1: [32, 22, 16], 2: [128, 103, 86, 74, 64], 3: [512, 456, 410, 373, 342, 316, 293, 274, 256]}
     images = {1: "06", 2: "02 75 8A", 3: "00 C8 9A 75 56 3C 25 12"}
     for k in (1, 2, 3):
@@ -207,6 +212,10 @@ def document_examples():
         (reference.call_check(2, bytes.fromhex("02758B")), (6, 3, 0)),
         (reference.call_check(2, bytes.fromhex("000000")), (6, 1, 0)),
         (reference.call_check(2, bytes.fromhex("06758A")), (6, 0, 0)),
+        (reference.call_build(2, bytes.fromhex("A5A5A5A5")), ((0, 0, 0), bytes.fromhex("02758A00"))),
+        (reference.call_check(2, bytes.fromhex("02758A00")), (0, 0, 0)),
+        (reference.call_check(2, bytes.fromhex("02758A0001")), (7, 4, 0)),
+        (reference.call_check(2, bytes.fromhex("02758B01")), (6, 3, 0)),
     ]
     for number, (found, expected) in enumerate(limits):
         if found != expected:
@@ -215,11 +224,11 @@ def document_examples():
 
 
 def document_cases(output):
-    """tests/document01.txt has the cases of document 01 for reciprocals, as `cases` must print them, and says where their
-    answers are from. It must be printed as it stands, with no line between and none after its last case."""
+    """tests/document01.txt has the cases of document 01 for reciprocals and those of Q-2, as `cases` must print them, and says where
+    their answers are from. It must be printed as it stands, with no line between and none after its last case."""
     document = (ROOT / "tests" / "document01.txt").read_bytes()
     cases = re.findall(rb"^#.*\n(?!#)", document, re.M)
-    if len(cases) != 35:
+    if len(cases) != 39:
         return f"there are {len(cases)} cases"
     below = output.split(script.MARK.encode(), 1)[1]
     return same(below[:len(document) + 1], document + b"#")
@@ -381,9 +390,9 @@ def one_command():
 
 
 def tests():
-    yield "document 01: the examples and limits of the image, and P of 135, by the reference", document_examples
-    yield "document 01: its cases for reciprocals, by the reference", lambda: document_cases(expected())
-    yield "document 01: its cases for reciprocals, by the program", lambda: document_cases(printed())
+    yield "document 01: the examples and limits of the image, those of Q-2, and P of 135, by the reference", document_examples
+    yield "document 01: its cases for reciprocals and those of Q-2, by the reference", lambda: document_cases(expected())
+    yield "document 01: its cases for reciprocals and those of Q-2, by the program", lambda: document_cases(printed())
     yield "document 01: the printed table of precision 2, by the reference", document_table
     yield "cases: the stored script below its mark is what tests/script.py writes", stored_script
     yield "cases: the stored output is what the reference writes", stored_output

@@ -51,6 +51,12 @@ def bits_of(buffer):
     return "".join(format(byte, "08b") for byte in buffer)
 
 
+def tail_is_not_zero(k, buffer):
+    """The lowest byte past the image that is not zero, and none where all are: the first one among the bits that follow the image's."""
+    one = bits_of(buffer).find("1", 8 * LENGTHS[k - 1])
+    return [] if one < 0 else [one // 8]
+
+
 def word_is_right(k, buffer, j):
     return bits_of(buffer)[j * width(k):(j + 1) * width(k)] == stored(k, j)
 
@@ -96,7 +102,7 @@ def call_build(k, buffer):
     number = first_two(k, buffer)
     if number:
         return (number, 0, 0), buffer
-    return (0, 0, 0), image(k) + buffer[LENGTHS[k - 1]:]
+    return (0, 0, 0), image(k).ljust(len(buffer), b"\0")
 
 
 def call_check(k, buffer):
@@ -104,7 +110,8 @@ def call_check(k, buffer):
     if number:
         return (number, 0, 0)
     bad = [j for j in range(2 ** k) if not word_is_right(k, buffer, j)]
-    return (6, min(bad), 0) if bad else (0, 0, 0)
+    wrong = [(6, j, 0) for j in bad] + [(7, at, 0) for at in tail_is_not_zero(k, buffer)]
+    return min(wrong, default=(0, 0, 0))
 
 
 def call_node(k, buffer, j):

@@ -1,6 +1,6 @@
 #!/usr/bin/env python3
-"""Writes the cases for reciprocals in crates/cases/stdin, the script of the program `cases`, whose commands crates/cases/src/main.rt
-describes. What stands down to the mark is kept, and is changed there. Below it come the cases of tests/document01.txt, without
+"""Writes the cases for reciprocals and full ROMs in crates/cases/stdin, the script of the program `cases`, whose commands
+crates/cases/src/main.rt describes. What stands down to the mark is kept, and is changed there. Below it come the cases of tests/document01.txt, without
 their answers, and those that are made here.
 
     python3 tests/script.py
@@ -246,6 +246,36 @@ def last_piece():
             yield invert(k, k, 2 ** (k + 1) - 1)
 
 
+# ---- full ROMs
+
+def full_roms():
+    yield "# Full ROMs, built over other bytes: less than 64 bytes behind the image; then some 200, or the whole room. A byte there is changed:"
+    yield "# the last, then also one in the middle, then also the first; then the first alone, then the middle one alone, on which the other"
+    yield "# calls do not depend. Then a word is wrong too, then it alone"
+    for k in PRECISIONS:
+        first = size(k)
+        for length in (first + 5 * k + 1, first + 160 + 9 * k if k % 2 else 16384):
+            last = length - 1
+            middle = (first + last) // 2 + k
+            mask = 1 << (k + length) % 8
+            yield f"fill {100 + k} 1"
+            yield f"length {length}"
+            yield f"build {k}"
+            if length < 400:
+                yield "show"
+            yield f"check {k}"
+            for at in (last, middle, first, middle, last, first, middle):
+                yield f"xor {at} {mask}"
+                yield f"check {k}"
+            yield from both(node(2 ** k - 1, 2 ** k, k))
+            yield f"word {2 ** k - 1} {2 ** k - 1} {k}"
+            yield from both(invert(k, k, 2 ** (k + 1) - 1))
+            yield flip_last(k, (length + k) % 2 ** k)
+            yield f"check {k}"
+            yield f"xor {middle} {mask}"
+            yield f"check {k}"
+
+
 # ---- limits
 
 def limits():
@@ -290,7 +320,7 @@ def order():
 
 
 PARTS = [document01, table2, every_operand, spread, single_precision, bits_to_the_right, wrong_words, each_bit, wrong_neighbours,
-         last_piece, limits, order]
+         last_piece, full_roms, limits, order]
 
 
 def script():
