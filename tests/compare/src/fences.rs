@@ -1,7 +1,8 @@
 //! Buffers between pages that cannot be touched: a call that reads or writes a byte outside of what it is lent does not come back. All
-//! calls but the builder's are made where nothing can be written either.
+//! calls but the builder's are made where nothing can be written either. For the builder and the check the pages stand behind the buffer,
+//! for the others also behind the image of a longer one.
 use crate::both::{called, Both};
-use crate::independent::{power, precisions, table, Judged, MOST_FRACTION_BITS};
+use crate::independent::{power, precisions, rom, table, Judged, MOST_FRACTION_BITS};
 use crate::library::Lent;
 use crate::work::Counted;
 use std::fmt::Write;
@@ -15,6 +16,7 @@ const REST: u8 = 0xC3;
 
 extern "C" {
     fn mmap(start: *mut u8, length: usize, protection: i32, flags: i32, file: i32, offset: i64) -> *mut u8;
+    fn munmap(start: *mut u8, length: usize) -> i32;
     fn mprotect(start: *mut u8, length: usize, protection: i32) -> i32;
     fn signal(number: i32, handler: extern "C" fn(i32)) -> usize;
     fn write(file: i32, bytes: *const u8, count: usize) -> isize;
@@ -25,6 +27,7 @@ const NOTHING: i32 = 0;
 const READ: i32 = 1;
 const READ_AND_WRITE: i32 = 3;
 const PRIVATE_AND_ANONYMOUS: i32 = 0x22;
+const NOT_RESERVED: i32 = 0x4000;
 const BUS_ERROR: i32 = 7;
 const SEGMENTATION_FAULT: i32 = 11;
 
@@ -114,11 +117,10 @@ pub fn watch() {
     }
 }
 
-/// The calls but the builder's: the check, each `step`-th node, its word, and operands at both ends of its piece, short ones too.
+/// The calls that look at nothing past the image: each `step`-th node, its word, and operands at both ends of its piece, short ones too.
 fn calls(both: &mut Both, step: usize) -> Result<(), String> {
     let k = both.judged.k;
     let words = power(k.min(12)) as u32;
-    both.check()?;
     for j in (0..words).step_by(step).chain(words - 1..words + 2).chain([u32::MAX]) {
         both.node(j)?;
         both.word_bytes(j)?;
@@ -133,13 +135,13 @@ fn calls(both: &mut Both, step: usize) -> Result<(), String> {
     Ok(())
 }
 
-/// Images in buffers of their own length, shorter ones, and buffers that are said to be longer than they are.
+/// Images in buffers of their own length, in longer and in shorter ones, and buffers that are said to be longer than they are.
 pub fn fenced(step: impl Fn(u32) -> usize) -> Counted {
     let fenced = Fenced::new();
     let mut cases = 0;
     for k in precisions() {
         for side in [Side::First, Side::Last] {
-            cases += images(&fenced, k, side, step(k))? + turned_back(&fenced, k, side, step(k))?;
+            cases += images(&fenced, k, side, step(k))? + tails(&fenced, k, side, step(k))? + turned_back(&fenced, k, side, step(k))?;
         }
         cases += said_longer(&fenced, k, step(k))?;
     }
@@ -154,21 +156,53 @@ fn images(fenced: &Fenced, k: u32, side: Side, step: usize) -> Counted {
         let judged = Judged::new(k, &content, content.len());
         let lent = fenced.put(side, &content);
         let mut both = Both::new(lent, &judged, &content);
+        both.check()?;
         calls(&mut both, 61 * step)?;
-        fenced.allow(READ_AND_WRITE);
-        both.build()?;
-        if !fenced.holds(side, image) {
-            return Err(format!(
-                "build, k {k}, {:?} byte at a fence, over bytes {byte:#x}: what is in the buffer is not its image, or more was written",
-                side
-            ));
-        }
         cases += both.cases;
     }
     let judged = Judged::new(k, image, image.len());
     let mut both = Both::new(fenced.put(side, image), &judged, image);
+    both.check()?;
     calls(&mut both, step)?;
     Ok(cases + both.cases)
+}
+
+/// Images built and checked in buffers with tails of many lengths, each `step`-th, at the fence: over zeros and ones; the full ROM; and with each byte of
+/// the tail, or some of them, not zero.
+fn tails(fenced: &Fenced, k: u32, side: Side, step: usize) -> Counted {
+    let image = &table(k).image;
+    let mut cases = 0;
+    for more in (0..=70).chain([127, 128, 129, 191, 192, 255, 256, 1000, ROOM - 13312]).step_by(step) {
+        let length = image.len() + more;
+        let full = rom(k, length);
+        for byte in [0x00, 0xFF] {
+            let content = vec![byte; length];
+            let judged = Judged::new(k, &content, length);
+            let mut both = Both::new(fenced.put(side, &content), &judged, &content);
+            both.check()?;
+            fenced.allow(READ_AND_WRITE);
+            both.build()?;
+            if !fenced.holds(side, &full) {
+                return Err(format!(
+                    "build, k {k}, {side:?} byte at a fence, length {length}, over bytes {byte:#x}: what is in the buffer is not its image and zeros, or more was written"
+                ));
+            }
+            cases += both.cases;
+        }
+        let sound = Judged::new(k, &full, length);
+        let mut both = Both::new(fenced.put(side, &full), &sound, &full);
+        both.check()?;
+        cases += both.cases;
+        for at in (0..more).step_by(1 + more / 16).chain(more.checked_sub(1)) {
+            let mut content = full.clone();
+            content[image.len() + at] = 1 << (at % 8);
+            let judged = Judged::new(k, &content, length);
+            let mut both = Both::new(fenced.put(side, &content), &judged, &content);
+            both.check()?;
+            cases += both.cases;
+        }
+    }
+    Ok(cases)
 }
 
 /// Buffers that are too short, and those of numbers that are no precision. Here the builder may not write.
@@ -180,6 +214,7 @@ fn turned_back(fenced: &Fenced, k: u32, side: Side, step: usize) -> Counted {
         for k in [k, 12, 0, 13, u32::MAX] {
             let judged = Judged::new(k, &image[..length], length);
             let mut both = Both::new(fenced.put(side, &image[..length]), &judged, &image[..length]);
+            both.check()?;
             calls(&mut both, 509 * step)?;
             both.build()?;
             cases += both.cases;
@@ -188,7 +223,8 @@ fn turned_back(fenced: &Fenced, k: u32, side: Side, step: usize) -> Counted {
     Ok(cases)
 }
 
-/// Buffers of an image's length that are said to be longer: what follows the image cannot be touched.
+/// Buffers of an image's length that are said to be longer: what follows the image cannot be touched, and the calls that look at nothing
+/// there serve them.
 fn said_longer(fenced: &Fenced, k: u32, step: usize) -> Counted {
     let image = &table(k).image;
     let mut cases = 0;
@@ -197,14 +233,40 @@ fn said_longer(fenced: &Fenced, k: u32, step: usize) -> Counted {
         let lent = Lent { length, ..fenced.put(Side::Last, image) };
         let mut both = Both::new(lent, &judged, image);
         calls(&mut both, 7 * step)?;
-        fenced.allow(READ_AND_WRITE);
-        both.build()?;
-        if !fenced.holds(Side::Last, image) {
-            return Err(format!(
-                "build, k {k}, in a buffer said to have {length} bytes: what is in the buffer is not its image, or more was written"
-            ));
-        }
         cases += both.cases;
+    }
+    Ok(cases)
+}
+
+/// A full ROM of more than 4 GiB, of which most pages are never written: it passes the check, and a byte that is not zero is named also
+/// where its number has more than 32 bits.
+pub fn beyond_32_bits() -> Counted {
+    const LENGTH: usize = (1 << 32) + ROOM;
+    let mut cases = 0;
+    unsafe {
+        let start = mmap(ptr::null_mut(), LENGTH + PAGE, NOTHING, PRIVATE_AND_ANONYMOUS | NOT_RESERVED, -1, 0);
+        assert_ne!(start as isize, -1, "no pages to be had");
+        assert_eq!(mprotect(start, LENGTH, READ_AND_WRITE), 0);
+        let lent = Lent { start, length: LENGTH };
+        for k in [2, 12] {
+            let image = &table(k).image;
+            start.copy_from_nonoverlapping(image.as_ptr(), image.len());
+            for at in [None, Some(LENGTH - 1), Some((1 << 32) + image.len()), Some(1 << 32), Some((1 << 32) - 1), Some(image.len())] {
+                let mut judged = Judged::new(k, image, LENGTH);
+                if let Some(at) = at {
+                    *start.add(at) = 0x20;
+                    judged.stray_at(at);
+                }
+                let mut both = Both::new(lent, &judged, image);
+                both.check()?;
+                cases += both.cases;
+                if let Some(at) = at {
+                    *start.add(at) = 0;
+                }
+            }
+            start.write_bytes(0, image.len());
+        }
+        assert_eq!(munmap(start, LENGTH + PAGE), 0);
     }
     Ok(cases)
 }

@@ -1,6 +1,6 @@
 //! Right images: built, checked, and every node and word read. The nodes that need no image.
 use crate::both::Both;
-use crate::independent::{constant_node, is_precision, power, precisions, table, Judged, GREATEST, LEAST, LENGTHS};
+use crate::independent::{constant_node, is_precision, power, precisions, rom, table, Judged, GREATEST, LEAST, LENGTHS};
 use crate::lent::{Buffer, Guards};
 use crate::library::{self, TableUnits};
 use crate::random::Random;
@@ -23,7 +23,7 @@ fn contents(k: u32, length: usize) -> Vec<(&'static str, Vec<u8>)> {
     ]
 }
 
-/// Every image, built in buffers of its own length and longer ones, over what stood there.
+/// Every image, built in buffers of its own length and longer ones, with zeros to their ends, over what stood there.
 pub fn built(guards: Guards, shifts: &[usize]) -> Counted {
     let works: Vec<(u32, usize)> = precisions().flat_map(|k| shifts.iter().map(move |shift| (k, *shift))).collect();
     share(&works, |&(k, shift)| {
@@ -35,8 +35,8 @@ pub fn built(guards: Guards, shifts: &[usize]) -> Counted {
                 let mut buffer = Buffer::new(guards, shift, &content);
                 let judged = Judged::new(k, &content, length);
                 Both::new(buffer.lent(), &judged, &content).build()?;
-                buffer.awaits(image);
-                buffer.as_kept(|| format!("build, k {k}, length {length}, over {name}, {shift} bytes after a multiple of 16"))?;
+                buffer.awaits(&rom(k, length));
+                buffer.as_kept(|| format!("build, k {k}, length {length}, over {name}, {shift} bytes after a multiple of 64"))?;
                 cases += 1;
             }
         }
@@ -44,14 +44,15 @@ pub fn built(guards: Guards, shifts: &[usize]) -> Counted {
     })
 }
 
-/// Every image checked, every node and the two after the last one read, every word shown, at each shift and with bytes after it.
+/// Every image checked, every node and the two after the last one read, every word shown, at each shift and with bytes after it, zeros and
+/// others.
 pub fn read(guards: Guards, shifts: &[usize]) -> Counted {
     let works: Vec<(u32, usize)> = precisions().flat_map(|k| shifts.iter().map(move |shift| (k, *shift))).collect();
     share(&works, |&(k, shift)| {
         let image = &table(k).image;
         let mut cases = 0;
-        for more in [0, 1, 17] {
-            let content = [&image[..], &vec![0xA5; more]].concat();
+        for (more, byte) in [(0, 0), (1, 0xA5), (17, 0), (17, 0xA5)] {
+            let content = [&image[..], &vec![byte; more]].concat();
             let mut buffer = Buffer::new(guards, shift, &content);
             let judged = Judged::new(k, &content, content.len());
             let mut both = Both::new(buffer.lent(), &judged, &content);
@@ -62,7 +63,7 @@ pub fn read(guards: Guards, shifts: &[usize]) -> Counted {
             }
             cases += both.cases;
             buffer.as_kept(|| {
-                format!("check, node and word bytes, k {k}, its image and {more} bytes, {shift} bytes after a multiple of 16")
+                format!("check, node and word bytes, k {k}, its image and {more} bytes {byte:#x}, {shift} bytes after a multiple of 64")
             })?;
         }
         Ok(cases)

@@ -1,7 +1,8 @@
 //! The independent implementation. It shares no code with the library and works by another method, from the words of the scope:
-//! nodes are searched for, images are lists of single bits, R is a point on the line between two nodes, refusals are a list of
-//! tests in their order.
+//! nodes are searched for, images are lists of single bits, a tail is the set of its bytes that are not zero, R is a point on the line
+//! between two nodes, refusals are a list of tests in their order.
 use crate::library::{Answer, Part};
+use std::collections::BTreeSet;
 use std::ops::{Range, RangeInclusive};
 use std::sync::OnceLock;
 
@@ -123,25 +124,45 @@ pub fn reciprocal_refusals(k: u32, length: usize, n: u32, x: u64) -> [Refusal; 4
     [first, second, (4, fraction_bits), (5, not_normalised)]
 }
 
-/// What is known of a lent buffer: the bytes that it is said to have, and which words of precision k are wrong in it.
+/// What is known of a lent buffer: the bytes that it is said to have, which words of precision k are wrong in it, and which bytes of its
+/// tail, past the image, are not zero.
 pub struct Judged {
     pub k: u32,
     pub length: usize,
     wrong: Vec<bool>,
+    stray: BTreeSet<usize>,
 }
 
 impl Judged {
-    /// Judges the words that lie in the bytes. Of the bytes, `length` are said to be lent.
+    /// Judges the words that lie in the bytes, and the tail. Of the bytes, `length` are said to be lent.
     pub fn new(k: u32, bytes: &[u8], length: usize) -> Judged {
         let words = if is_precision(k) { (8 * bytes.len() / width(k)).min(power(k) as usize) } else { 0 };
         let wrong = (0..words).map(|j| is_wrong(k, bytes, j)).collect();
-        Judged { k, length, wrong }
+        let past = if is_precision(k) { table(k).image.len() } else { bytes.len() };
+        let stray = (past..bytes.len()).filter(|at| bytes[*at] != 0).collect();
+        Judged { k, length, wrong, stray }
     }
 
-    /// Judges anew the word that holds a bit.
+    /// Judges anew the word that holds a bit, or the byte of the tail.
     pub fn again(&mut self, bytes: &[u8], bit: usize) {
-        let j = bit / width(self.k);
-        self.wrong[j] = is_wrong(self.k, bytes, j);
+        let (j, byte) = (bit / width(self.k), bit / 8);
+        if j < self.wrong.len() {
+            self.wrong[j] = is_wrong(self.k, bytes, j);
+        } else if bytes[byte] != 0 {
+            self.stray.insert(byte);
+        } else {
+            self.stray.remove(&byte);
+        }
+    }
+
+    /// A byte of the tail is not zero, though it lies past the bytes that were judged.
+    pub fn stray_at(&mut self, at: usize) {
+        self.stray.insert(at);
+    }
+
+    /// Whether a byte of the tail is not zero.
+    pub fn has_stray(&self) -> bool {
+        !self.stray.is_empty()
     }
 
     /// The answer of a call that has these refusals, then reads these words, and serves this value.
@@ -161,7 +182,11 @@ impl Judged {
     }
 
     pub fn check(&self) -> Answer {
-        self.answer(&image_refusals(self.k, self.length), || 0..power(self.k) as usize, || 0)
+        let words = self.answer(&image_refusals(self.k, self.length), || 0..power(self.k) as usize, || 0);
+        match self.stray.first() {
+            Some(at) if words.number == 0 => Answer { number: 7, place: *at as u64, value: 0 },
+            _ => words,
+        }
     }
 
     pub fn node(&self, j: u32) -> Answer {
@@ -188,6 +213,13 @@ impl Judged {
         bytes.dedup();
         Part { offset: bytes[0], count: bytes.len() }
     }
+}
+
+/// What a served builder leaves in a buffer of a length: the image, and zeros to the end.
+pub fn rom(k: u32, length: usize) -> Vec<u8> {
+    let mut bytes = table(k).image.clone();
+    bytes.resize(length, 0);
+    bytes
 }
 
 /// Whether the bits of word j are not those of the construction.

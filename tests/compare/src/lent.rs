@@ -15,6 +15,14 @@ impl Guards {
             Guards::Watched => 0,
         }
     }
+
+    /// As many bytes, or up to 63 more, so that what follows them in the room stands at a multiple of 64.
+    fn before(self, room: *const u8) -> usize {
+        match self {
+            Guards::Bytes => self.count() + (room as usize).wrapping_neg() % 64,
+            Guards::Watched => 0,
+        }
+    }
 }
 
 /// A buffer in a room of its own, and what each byte of the room has to be.
@@ -26,10 +34,12 @@ pub struct Buffer {
 }
 
 impl Buffer {
-    /// A buffer with this content, `shift` bytes after an address that is a multiple of 16.
+    /// A buffer with this content, `shift` bytes after an address that is a multiple of 64; without guard bytes, of 16.
     pub fn new(guards: Guards, shift: usize, content: &[u8]) -> Buffer {
-        let first = guards.count() + shift;
-        let mut room: Vec<u8> = (0..first + content.len() + guards.count()).map(|at| (at * 151 + 43) as u8).collect();
+        let most = 2 * guards.count() + shift + content.len();
+        let mut room: Vec<u8> = (0..most + guards.count()).map(|at| (at * 151 + 43) as u8).collect();
+        let first = guards.before(room.as_ptr()) + shift;
+        room.truncate(first + content.len() + guards.count());
         room[first..first + content.len()].copy_from_slice(content);
         Buffer { kept: room.clone(), room, first, length: content.len() }
     }

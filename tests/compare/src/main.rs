@@ -16,6 +16,7 @@ mod operands;
 mod random;
 mod refusals;
 mod short;
+mod tails;
 mod unwritten;
 mod work;
 
@@ -62,6 +63,11 @@ impl Parts<'_> {
         self.part("two bits changed", || damage::two_bits(Bytes, 4, 50_000));
         self.part("any content", || damage::any_content(Bytes, 1000));
         self.part("every content of the shortest images", || damage::every_content(Bytes, 1));
+        self.part("tails built", || tails::built(Bytes, 1));
+        self.part("tails with one bit changed", || tails::one_bit(Bytes, 1));
+        self.part("tails with more than one byte changed", || tails::several(Bytes, 1));
+        self.part("tails of some MiB", || tails::long(Bytes, &[1 << 20, (5 << 20) + 3]));
+        self.part("a tail beyond 4 GiB", fences::beyond_32_bits);
         self.part("refusals", || refusals::combinations(Bytes, true));
         self.part("upper halves of registers", || refusals::upper_halves(Bytes));
         self.part("no bytes", refusals::no_bytes);
@@ -79,6 +85,9 @@ impl Parts<'_> {
         self.part("two bits changed", || damage::two_bits(Watched, 1, 10));
         self.part("any content", || damage::any_content(Watched, 1));
         self.part("every content of the shortest images", || damage::every_content(Watched, 9973));
+        self.part("tails built", || tails::built(Watched, 7));
+        self.part("tails with one bit changed", || tails::one_bit(Watched, 7));
+        self.part("tails with more than one byte changed", || tails::several(Watched, 7));
         self.part("refusals", || refusals::combinations(Watched, false));
         self.part("upper halves of registers", || refusals::upper_halves(Watched));
         self.part("fences", || fences::fenced(|k| 1 << (k / 2)));

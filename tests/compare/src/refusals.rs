@@ -1,7 +1,7 @@
 //! Numbers at and beyond each limit, in every combination.
 use crate::both::{told, Both};
 use crate::independent::{
-    constant_node, image_refusals, is_precision, node_refusals, power, reciprocal_refusals, table, Judged, Refusal, GREATEST, LENGTHS,
+    constant_node, image_refusals, is_precision, node_refusals, power, reciprocal_refusals, rom, table, Judged, Refusal, GREATEST, LENGTHS,
     MOST_FRACTION_BITS,
 };
 use crate::lent::{Buffer, Guards};
@@ -51,8 +51,8 @@ fn sorted<N: Ord>(mut numbers: Vec<N>) -> Vec<N> {
 /// The bytes that a buffer has at most, though it may be said to have more.
 const ROOM: usize = 32768;
 
-/// Lengths about each image length, and huge ones. A call looks at nothing past the image, so that a buffer which has one may be said to
-/// have any length: this goes beyond what a caller may do.
+/// Lengths about each image length, and huge ones. The calls but the builder's and the check look at nothing past the image, so that a buffer
+/// which has one may be said to have any length: this goes beyond what a caller may do.
 fn asked_lengths(k: u32) -> Vec<usize> {
     let mut lengths = vec![0, 1, 2, 28671, 28672, ROOM, (1 << 31) - 1, 1 << 31];
     lengths.extend([32, 61, 63].iter().flat_map(|at| [(1 << at) - 1, 1 << at, (1 << at) + 1]));
@@ -66,15 +66,16 @@ fn asked_lengths(k: u32) -> Vec<usize> {
     sorted(lengths)
 }
 
-/// What a buffer holds, and whether each of its words is wrong.
+/// What a buffer holds, and whether each of its words is wrong. Where a byte follows the image, it is zero in two of these.
 fn contents(k: u32) -> Vec<(Vec<u8>, bool)> {
     let k = if is_precision(k) { k } else { 12 };
     let mut random = Random::new(u64::from(k));
     let right: Vec<u8> = table(k).image.iter().copied().chain(random.bytes(ROOM)).take(ROOM).collect();
     let wrong = right.iter().map(|byte| !byte).collect();
-    let mut damaged = right.clone();
+    let full = rom(k, ROOM);
+    let mut damaged = full.clone();
     damaged[table(k).image.len() / 2] ^= 16;
-    vec![(right, false), (wrong, true), (damaged, false), (random.bytes(ROOM), false)]
+    vec![(right, false), (wrong, true), (full, false), (damaged, false), (random.bytes(ROOM), false)]
 }
 
 /// Whether each set of refusals applied to a call: the bits of a set are the numbers of its refusals.
@@ -82,12 +83,12 @@ struct Met(Vec<AtomicBool>);
 
 impl Met {
     fn new() -> Met {
-        Met((0..128).map(|_| AtomicBool::new(false)).collect())
+        Met((0..256).map(|_| AtomicBool::new(false)).collect())
     }
 
-    fn add(&self, refusals: &[Refusal], wrong: bool) {
-        let words = [(6, wrong)];
-        let applying = refusals.iter().chain(&words).filter(|(_, applies)| *applies);
+    fn add(&self, refusals: &[Refusal], wrong: bool, stray: bool) {
+        let content = [(6, wrong), (7, stray)];
+        let applying = refusals.iter().chain(&content).filter(|(_, applies)| *applies);
         let met = &self.0[applying.map(|(number, _)| 1 << number).sum::<usize>()];
         if !met.load(Ordering::Relaxed) {
             met.store(true, Ordering::Relaxed);
@@ -115,36 +116,43 @@ pub fn combinations(guards: Guards, whole: bool) -> Counted {
         let mut cases = 0;
         let mut random = Random::new(length as u64 ^ u64::from(k));
         let kinds = contents(k);
-        for (content, wrong) in &kinds[..if whole { 4 } else { 2 }] {
+        for (content, wrong) in &kinds[..if whole { 5 } else { 2 }] {
             let (wrong, there) = (*wrong, length.min(ROOM));
             let mut buffer = Buffer::new(guards, random.below(16) as usize, &content[..there]);
             let lent = Lent { length, ..buffer.lent() };
             let judged = Judged::new(k, &content[..there], length);
             let mut both = Both::new(lent, &judged, &content[..there]);
-            both.check()?;
-            met_image.add(&image_refusals(k, length), wrong);
+            let refused = judged.build().number != 0;
+            let to_the_end = refused || there == length; // the builder and the check go to a buffer's end where they serve it
+            if to_the_end {
+                both.check()?;
+                met_image.add(&image_refusals(k, length), wrong, judged.has_stray());
+            }
             for j in asked_nodes(k).into_iter().skip(random.below(every) as usize).step_by(every as usize) {
                 both.node(j)?;
                 both.word_bytes(j)?;
-                met_node.add(&node_refusals(k, length, j), wrong);
+                met_node.add(&node_refusals(k, length, j), wrong, false);
             }
             for n in &bits {
                 for x in operands.iter().skip(random.below(every) as usize).step_by(every as usize) {
                     both.reciprocal(*n, *x)?;
-                    met_reciprocal.add(&reciprocal_refusals(k, length, *n, *x), wrong);
+                    met_reciprocal.add(&reciprocal_refusals(k, length, *n, *x), wrong, false);
                 }
             }
             buffer.as_kept(|| format!("the calls but build, k {k}, length {length}, on {}", told(k, &content[..there])))?;
-            both.build()?;
+            if to_the_end {
+                both.build()?;
+            }
             cases += both.cases;
-            if judged.build().number == 0 {
-                buffer.awaits(&table(k).image);
+            if to_the_end && !refused {
+                buffer.awaits(&rom(k, length));
             }
             buffer.as_kept(|| format!("build, k {k}, length {length}, on {}", told(k, &content[..there])))?;
         }
         Ok(cases)
     })?;
     met_image.all("check", &[1, 2, 6])?;
+    met_image.all("check", &[6, 7])?; // 7 needs bytes past an image: neither 1 nor 2 comes with it
     met_node.all("node", &[1, 2, 3, 6])?;
     met_reciprocal.all("reciprocal", &[1, 2, 4, 5, 6])?;
     Ok(cases)
