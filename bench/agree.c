@@ -1,7 +1,8 @@
-// Whether all that is timed gives the library's answers, on images whole and damaged, on operands and on refusals.
+// Whether all that is timed gives the library's answers, on images whole and damaged, on tails, on operands and on refusals.
 #include "calls.h"
 #include "given.h"
 #include "otherwise.h"
+#include "tails.h"
 #include "trusting.h"
 #include <stdbool.h>
 #include <stdio.h>
@@ -58,17 +59,49 @@ static void reciprocal(uint32_t k, const uint8_t *image, size_t length, uint32_t
     same(a, apart_reciprocal(k, image, length, n, x), "apart_reciprocal");
 }
 
-// The image that a builder leaves in a longer buffer, and the bytes after it.
+enum { TAIL = 200 };
+
+// What a builder, the library's too, leaves in a buffer: the image, zeros to its end, and the byte behind it as it was.
 static void build(answer (*builder)(uint32_t, uint8_t *, size_t), uint32_t k, const char *name)
 {
-    cases++;
-    static uint8_t other[LONGEST + 8];
+    static uint8_t other[LONGEST + TAIL + 1];
     memset(other, 165, sizeof other);
     agree(builder(k, other, lengths[k] - 1).number == 2 && other[0] == 165, name);
-    agree(builder(k, other, sizeof other).number == 0, name);
-    agree(memcmp(other, images[k], lengths[k]) == 0, name);
-    for (size_t b = lengths[k]; b < sizeof other; b++)
-        agree(other[b] == 165, name);
+    for (size_t tail = 0; tail <= TAIL; tail++) {
+        cases++;
+        size_t length = lengths[k] + tail;
+        memset(other, 165, sizeof other);
+        agree(builder(k, other, length).number == 0, name);
+        agree(memcmp(other, images[k], lengths[k]) == 0, name);
+        for (size_t b = lengths[k]; b < length; b++)
+            agree(other[b] == 0, name);
+        agree(other[length] == 165, name);
+    }
+}
+
+// The check on tails: of zeros, with one byte changed, with another one too, and with a wrong word as well; and the tail read alone.
+static void tails(uint32_t k)
+{
+    static uint8_t rom[LONGEST + TAIL];
+    memset(rom, 0, sizeof rom);
+    memcpy(rom, images[k], lengths[k]);
+    for (size_t tail = 0; tail <= TAIL; tail++) {
+        size_t length = lengths[k] + tail;
+        check(k, rom, length);
+        agree(tail_read(rom, lengths[k], length) == length, "tail_read");
+        for (int s = 0; s < 20 && 0 < tail; s++) {
+            size_t one = lengths[k] + drawn() % tail, other = lengths[k] + drawn() % tail, word = drawn() % lengths[k];
+            rom[one] ^= (uint8_t)(1 << drawn() % 8);
+            check(k, rom, length);
+            agree(tail_read(rom, lengths[k], length) == one, "tail_read");
+            rom[other] |= (uint8_t)(1 << drawn() % 8);
+            check(k, rom, length);
+            rom[word] ^= 64;
+            check(k, rom, length);
+            rom[word] ^= 64;
+            rom[one] = rom[other] = 0;
+        }
+    }
 }
 
 // The calls around a bit that was turned over.
@@ -95,6 +128,7 @@ int main(void)
     for (uint32_t k = LEAST; k <= GREATEST; k++) {
         const uint8_t *image = images[k];
         size_t length = lengths[k];
+        build(yildegga_build, k, "yildegga_build");
         build(careful_O2_build, k, "careful_O2_build");
         build(careful_O3_build, k, "careful_O3_build");
         build(bytewise_O2_build, k, "bytewise_O2_build");
@@ -103,6 +137,7 @@ int main(void)
         build(doubles_build, k, "doubles_build");
         check(k, image, length);
         check(k, image, length - 1);
+        tails(k);
         for (uint32_t j = 0; j <= (1u << k) + 1; j++)
             node(k, image, length, j);
         for (int s = 0; s < 200000; s++) {

@@ -1,4 +1,4 @@
-// The same calls with each word read byte by byte in a loop, as the algorithm is first written down.
+// The same calls with words and tail byte by byte in a loop, as the algorithm is first written down.
 #include "calls.h"
 
 static inline answer refused(uint32_t number)
@@ -40,6 +40,7 @@ answer CALL(build)(uint32_t k, uint8_t *image, size_t length)
         return refused(number);
     uint32_t width = 2 * k + 2, count = 1u << k, left = 0;
     uint64_t waiting = 0, numerator = (uint64_t)1 << (3 * k + 3);
+    const uint8_t *end = image + length;
     for (uint32_t i = count; i < 2 * count; i++) {
         uint64_t c = numerator / i + (numerator % i != 0);
         waiting = waiting << width | (c & (((uint64_t)1 << width) - 1));
@@ -49,6 +50,8 @@ answer CALL(build)(uint32_t k, uint8_t *image, size_t length)
             *image++ = (uint8_t)(waiting >> left);
         }
     }
+    while (image < end)
+        *image++ = 0;
     return (answer){0, 0, 0};
 }
 
@@ -60,6 +63,9 @@ answer CALL(check)(uint32_t k, const uint8_t *image, size_t length)
     for (uint32_t j = 0; j < 1u << k; j++)
         if (judged(k, image, j) == 0)
             return (answer){6, j, 0};
+    for (size_t at = (((size_t)2 * k + 2) << k) / 8; at < length; at++)
+        if (image[at] != 0)
+            return (answer){7, at, 0};
     return (answer){0, 0, 0};
 }
 

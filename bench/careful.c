@@ -1,5 +1,6 @@
 // The library's algorithm with the library's checks, written for speed: both neighbours of a piece come from one reading of 8 bytes,
-// which holds them, since two words and the up to 7 bits before them make at most 59 bits.
+// which holds them, since two words and the up to 7 bits before them make at most 59 bits. The tail is read 8 bytes at a time, and written by
+// memset.
 #include "calls.h"
 #include "reading.h"
 #include "writing.h"
@@ -20,7 +21,7 @@ answer CALL(build)(uint32_t k, uint8_t *image, size_t length)
     writer to = {0, 0, image};
     for (uint32_t i = count; i < 2 * count; i++)
         put(&to, width, (below / i + 1) & mask);
-    put_rest(&to);
+    put_rest(&to, image + length);
     return (answer){0, 0, 0};
 }
 
@@ -46,7 +47,8 @@ answer CALL(check)(uint32_t k, const uint8_t *image, size_t length)
     for (; j < count; j++)
         if (!right(lead + (bits_from(image, bytes, (size_t)j * width) >> (64 - width)), count + j, numerator))
             return (answer){6, j, 0};
-    return (answer){0, 0, 0};
+    size_t past = first_set(image, bytes, length);
+    return past < length ? (answer){7, past, 0} : (answer){0, 0, 0};
 }
 
 answer CALL(node)(uint32_t k, const uint8_t *image, size_t length, uint32_t j)

@@ -4,6 +4,7 @@
 #include "calls.h"
 #include "given.h"
 #include "otherwise.h"
+#include "tails.h"
 #include "trusting.h"
 #include <stdio.h>
 #include <stdlib.h>
@@ -138,18 +139,18 @@ static long floated_in_turn(void)
 // Building and checking at precision k, and building all twelve in a row.
 static uint8_t built[LONGEST];
 
-#define BUILDS_ALL(name, prefix)                                         \
-    static long name##_builds_all(void)                                  \
-    {                                                                    \
-        for (uint32_t each = LEAST; each <= GREATEST; each++)            \
-            sink = JOIN(prefix, build)(each, built, LONGEST).number;     \
-        return 1;                                                        \
+#define BUILDS_ALL(name, prefix)                                           \
+    static long name##_builds_all(void)                                    \
+    {                                                                      \
+        for (uint32_t each = LEAST; each <= GREATEST; each++)              \
+            sink = JOIN(prefix, build)(each, built, lengths[each]).number; \
+        return 1;                                                          \
     }
 #define BUILDS(name, prefix)                                             \
     static long name##_builds(void)                                      \
     {                                                                    \
         for (int s = 0; s < 4; s++)                                      \
-            sink = JOIN(prefix, build)(k, built, LONGEST).number;        \
+            sink = JOIN(prefix, build)(k, built, lengths[k]).number;     \
         return 4;                                                        \
     }
 #define CHECKS(name, prefix)                                             \
@@ -174,6 +175,30 @@ CHECKS(careful_3, careful_O3)
 CHECKS(bytewise_2, bytewise_O2)
 CHECKS(bytewise_3, bytewise_O3)
 
+// Full ROMs of precision 8, in one buffer: each pass builds or checks the first `rom_length` bytes, or the image alone, or has the tail alone.
+enum { ROM_K = 8, ROM_MOST = 1 << 24 };
+static uint8_t rom[ROM_MOST];
+static size_t rom_length;
+static int rom_calls;
+
+#define ROM_PASS(name, call)                \
+    static long name(void)                  \
+    {                                       \
+        for (int s = 0; s < rom_calls; s++) \
+            call;                           \
+        return rom_calls;                   \
+    }
+#define ROMS(name, prefix)                                                                       \
+    ROM_PASS(name##_builds_rom, sink = JOIN(prefix, build)(ROM_K, rom, rom_length).number)       \
+    ROM_PASS(name##_builds_image, sink = JOIN(prefix, build)(ROM_K, rom, lengths[ROM_K]).number) \
+    ROM_PASS(name##_checks_rom, sink = JOIN(prefix, check)(ROM_K, rom, rom_length).number)       \
+    ROM_PASS(name##_checks_image, sink = JOIN(prefix, check)(ROM_K, rom, lengths[ROM_K]).number)
+ROMS(library, yildegga)
+ROMS(careful_2, careful_O2)
+ROMS(careful_3, careful_O3)
+ROM_PASS(zeros, tail_zeros(rom, lengths[ROM_K], rom_length))
+ROM_PASS(reads, sink = tail_read(rom, lengths[ROM_K], rom_length))
+
 static double now(void)
 {
     struct timespec t;
@@ -187,10 +212,12 @@ static int by_size(const void *a, const void *b)
     return (u > v) - (u < v);
 }
 
+static int rounds = ROUNDS;
+
 static double middle(double *of)
 {
-    qsort(of, ROUNDS, sizeof(double), by_size);
-    return of[ROUNDS / 2];
+    qsort(of, (size_t)rounds, sizeof(double), by_size);
+    return of[rounds / 2];
 }
 
 // Of each contestant: nanoseconds of a call, the least and the median of the rounds, and how many times its time the first one takes.
@@ -198,10 +225,11 @@ static struct {
     double least, median, ratio;
 } result[MOST];
 
-static void contest(void (*draw)(void), int count, pass *const *passes)
+static double taken[MOST][ROUNDS], ratios[ROUNDS];
+
+static void run_rounds(void (*draw)(void), int count, pass *const *passes)
 {
-    static double taken[MOST][ROUNDS], ratios[ROUNDS];
-    for (int r = -2; r < ROUNDS; r++) {
+    for (int r = -2; r < rounds; r++) {
         if (draw)
             draw();
         for (int c = 0; c < count; c++) {
@@ -212,13 +240,23 @@ static void contest(void (*draw)(void), int count, pass *const *passes)
                 taken[c][r] = (to - from) / (double)calls;
         }
     }
+}
+
+static void compare(int count)
+{
     for (int c = count - 1; 0 <= c; c--) {
-        for (int r = 0; r < ROUNDS; r++)
+        for (int r = 0; r < rounds; r++)
             ratios[r] = taken[0][r] / taken[c][r];
         result[c].ratio = middle(ratios);
         result[c].median = middle(taken[c]);
         result[c].least = taken[c][0];
     }
+}
+
+static void contest(void (*draw)(void), int count, pass *const *passes)
+{
+    run_rounds(draw, count, passes);
+    compare(count);
 }
 
 #define CONTEST(draw, ...) contest(draw, (int)(sizeof((pass *[]){__VA_ARGS__}) / sizeof(pass *)), (pass *[]){__VA_ARGS__})
@@ -286,6 +324,54 @@ static void same_algorithm(void)
     five_row("  through the bound table", 1);
 }
 
+// The tail alone in each round, what the long buffer takes more than the image, as a ratio to the last contestant: its median.
+static double tail_ratio(int rom_pass, int image_pass, int alone)
+{
+    for (int r = 0; r < rounds; r++)
+        ratios[r] = (taken[rom_pass][r] - taken[image_pass][r]) / taken[alone][r];
+    return middle(ratios);
+}
+
+enum { ROM_PASSES = 6 };
+
+// The first three passes have the long buffer, the library and C at -O2 and -O3; the next two the image alone, the library and C at -O2; the
+// last one the tail alone. The longest buffer gets fewer rounds, of one call each.
+static void rom_row(const char *name, size_t length, pass *const *passes)
+{
+    static const double scale = 1e-3;
+    rom_length = length;
+    rom_calls = length < ROM_MOST ? 8 : 1;
+    rounds = length < ROM_MOST ? ROUNDS : ROUNDS / 5;
+    run_rounds(NULL, ROM_PASSES, passes);
+    double library_tail = tail_ratio(0, 3, 5), c_tail = tail_ratio(1, 4, 5);
+    compare(ROM_PASSES);
+    printf("%-24s %9.2f %9.2f %9.2f %9.2f  %9.2f %9.2f", name, result[0].least * scale, result[0].median * scale, result[1].least * scale,
+           result[2].least * scale, result[1].ratio, result[2].ratio);
+    if (length == lengths[ROM_K])
+        printf("\n");
+    else
+        printf("   %9.2f %9.2f %9.2f\n", result[5].least * scale, library_tail, c_tail);
+    rounds = ROUNDS;
+}
+
+static void full_roms(void)
+{
+    static pass *const builds[ROM_PASSES] = {library_builds_rom,   careful_2_builds_rom,   careful_3_builds_rom,
+                                             library_builds_image, careful_2_builds_image, zeros};
+    static pass *const checks[ROM_PASSES] = {library_checks_rom,   careful_2_checks_rom,   careful_3_checks_rom,
+                                             library_checks_image, careful_2_checks_image, reads};
+    printf("\nFull ROMs, k = %d. A tail is what the buffer takes more than its image, beside memset and beside C's reading by 8 bytes\n\n", ROM_K);
+    printf("%-24s %9s %9s %9s %9s  %9s %9s   %9s %9s %9s\n", "microseconds", "library", "(median)", "C -O2", "C -O3", "lib:C -O2", "lib:C -O3",
+           "tail in C", "lib:tail", "C:tail");
+    memset(rom, 165, sizeof rom);
+    rom_row("build, 576 bytes", lengths[ROM_K], builds);
+    rom_row("build, 64 KiB", 1 << 16, builds);
+    rom_row("build, 16 MiB", ROM_MOST, builds);
+    rom_row("check, 576 bytes", lengths[ROM_K], checks);
+    rom_row("check, 64 KiB", 1 << 16, checks);
+    rom_row("check, 16 MiB", ROM_MOST, checks);
+}
+
 static void instead(uint32_t precision)
 {
     static const char *const names[] = {"library, all checks",          "C, all checks",           "C, all checks, kept constants",
@@ -347,6 +433,7 @@ int main(void)
     setvbuf(stdout, NULL, _IOLBF, 0);
     make_images();
     same_algorithm();
+    full_roms();
     instead(8);
     instead(12);
     otherwise_built();

@@ -21,7 +21,7 @@ answer pairs_build(uint32_t k, uint8_t *image, size_t length)
         put(&to, width, one & mask);
         put(&to, width, other & mask);
     }
-    put_rest(&to);
+    put_rest(&to, image + length);
     return (answer){0, 0, 0};
 }
 
@@ -38,7 +38,7 @@ answer doubles_build(uint32_t k, uint8_t *image, size_t length)
     writer to = {0, 0, image};
     for (uint32_t i = count; i < 2 * count; i++)
         put(&to, width, ((uint64_t)(int64_t)(below / (double)(int32_t)i) + 1) & mask);
-    put_rest(&to);
+    put_rest(&to, image + length);
     return (answer){0, 0, 0};
 }
 

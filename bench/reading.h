@@ -1,4 +1,4 @@
-// How the C here reads and judges words: 8 bytes in one reading.
+// How the C here reads and judges words, and a tail: 8 bytes in one reading.
 #ifndef READING_H
 #define READING_H
 #include <stddef.h>
@@ -25,6 +25,21 @@ static inline uint64_t bits_from(const uint8_t *image, size_t bytes, size_t bit)
     for (size_t b = 0; b < bytes; b++)
         v |= (uint64_t)image[b] << (56 - 8 * b);
     return v << bit;
+}
+
+// The lowest byte from `from` on that is not zero, and `length` where there is none.
+static inline size_t first_set(const uint8_t *buffer, size_t from, size_t length)
+{
+    size_t at = from;
+    for (uint64_t v; at + 8 <= length; at += 8) {
+        memcpy(&v, buffer + at, 8);
+        if (v != 0)
+            return at + (size_t)__builtin_ctzll(v) / 8;
+    }
+    for (; at < length; at++)
+        if (buffer[at] != 0)
+            return at;
+    return length;
 }
 
 // Whether c is numerator / i rounded up.

@@ -1,4 +1,4 @@
-// How the C here writes words: bits wait in 64 and are stored by four bytes.
+// How the C here writes words: bits wait in 64 and are stored by four bytes; and the zeros behind them.
 #ifndef WRITING_H
 #define WRITING_H
 #include <stdint.h>
@@ -22,13 +22,14 @@ static inline void put(writer *to, uint32_t width, uint64_t word)
     }
 }
 
-// The whole bytes that still wait; an image ends at one.
-static inline void put_rest(writer *to)
+// The whole bytes that still wait, for an image ends at one, and zeros to the buffer's end.
+static inline void put_rest(writer *to, uint8_t *end)
 {
     while (8 <= to->left) {
         to->left -= 8;
         *to->at++ = (uint8_t)(to->waiting >> to->left);
     }
+    memset(to->at, 0, (size_t)(end - to->at));
 }
 
 #endif

@@ -53,7 +53,7 @@ MEMORY = {
     "tails with more than one byte changed": 12_000,
     "refusals": 3_500_000,
     "upper halves of registers": 24_000,
-    "fences": 77_000,
+    "fences": 86_000,
 }
 
 

@@ -123,12 +123,11 @@ pub fn told(k: u32, bytes: &[u8]) -> String {
         let bits = &table(k).bits;
         let changed: Vec<usize> = (0..bits.len()).filter(|bit| (bytes[bit / 8] >> (7 - bit % 8) & 1 == 1) != bits[*bit]).collect();
         let past = table(k).image.len();
-        let stray: Vec<usize> = (past..bytes.len()).filter(|at| bytes[*at] != 0).take(17).collect();
+        let stray: Vec<usize> = (past..bytes.len()).filter(|at| bytes[*at] != 0).take(16).collect();
         if changed.len() <= 16 {
             let more = bytes.len() - past;
             return format!(
-                "the image of precision {k} with the bits {changed:?} changed, and {more} bytes past it, of which these are not zero, the first {}: {stray:?}",
-                stray.len()
+                "the image of precision {k} with the bits {changed:?} changed and {more} bytes past it, the first that are not zero: {stray:?}"
             );
         }
     }
