@@ -31,7 +31,7 @@ WHOLE = {
     "tails with one bit changed": 9 * 64 * 8 * sum(range(71)),
     "tails with more than one byte changed": 4_200_000,
     "tails of some MiB": 18_000,
-    "a tail beyond 4 GiB": 12,
+    "a tail beyond 4 GiB": 13,
     "refusals": 98_000_000,
     "upper halves of registers": 24_000,
     "no bytes": 890_000,

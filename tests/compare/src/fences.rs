@@ -5,6 +5,7 @@ use crate::both::{called, Both};
 use crate::independent::{power, precisions, rom, table, Judged, MOST_FRACTION_BITS};
 use crate::library::Lent;
 use crate::work::Counted;
+use std::ffi::c_char;
 use std::fmt::Write;
 use std::{ptr, slice};
 
@@ -18,6 +19,9 @@ extern "C" {
     fn mmap(start: *mut u8, length: usize, protection: i32, flags: i32, file: i32, offset: i64) -> *mut u8;
     fn munmap(start: *mut u8, length: usize) -> i32;
     fn mprotect(start: *mut u8, length: usize, protection: i32) -> i32;
+    fn memfd_create(name: *const c_char, flags: u32) -> i32;
+    fn ftruncate(file: i32, length: i64) -> i32;
+    fn close(file: i32) -> i32;
     fn signal(number: i32, handler: extern "C" fn(i32)) -> usize;
     fn write(file: i32, bytes: *const u8, count: usize) -> isize;
     fn _exit(status: i32) -> !;
@@ -28,6 +32,7 @@ const READ: i32 = 1;
 const READ_AND_WRITE: i32 = 3;
 const PRIVATE_AND_ANONYMOUS: i32 = 0x22;
 const NOT_RESERVED: i32 = 0x4000;
+const SHARED_AND_FIXED: i32 = 0x11;
 const BUS_ERROR: i32 = 7;
 const SEGMENTATION_FAULT: i32 = 11;
 
@@ -238,10 +243,45 @@ fn said_longer(fenced: &Fenced, k: u32, step: usize) -> Counted {
     Ok(cases)
 }
 
-/// A full ROM of more than 4 GiB, of which most pages are never written: it passes the check, and a byte that is not zero is named also
-/// where its number has more than 32 bits.
+/// A buffer whose last bytes have numbers of more than 32 bits.
+const LENGTH: usize = (1 << 32) + ROOM;
+
+/// Such buffers built and checked.
 pub fn beyond_32_bits() -> Counted {
-    const LENGTH: usize = (1 << 32) + ROOM;
+    Ok(built_beyond(2)? + checked_beyond()?)
+}
+
+/// An image built in such a buffer. Its middle is one block of memory that stands there again and again, so that no 4 GiB are needed.
+fn built_beyond(k: u32) -> Counted {
+    const BLOCK: usize = 1 << 24;
+    unsafe {
+        let start = mmap(ptr::null_mut(), LENGTH + PAGE, NOTHING, PRIVATE_AND_ANONYMOUS | NOT_RESERVED, -1, 0);
+        assert_ne!(start as isize, -1, "no pages to be had");
+        let file = memfd_create(c"block".as_ptr(), 0);
+        assert_eq!(ftruncate(file, BLOCK as i64), 0);
+        for at in (BLOCK..1 << 32).step_by(BLOCK) {
+            assert_eq!(mmap(start.add(at), BLOCK, READ_AND_WRITE, SHARED_AND_FIXED, file, 0), start.add(at));
+        }
+        for (at, length) in [(0, BLOCK), (1 << 32, ROOM)] {
+            assert_eq!(mprotect(start.add(at), length, READ_AND_WRITE), 0);
+            start.add(at).write_bytes(REST, length);
+        }
+        start.add(BLOCK).write_bytes(REST, BLOCK);
+        let judged = Judged::new(k, &[], LENGTH);
+        let mut both = Both::new(Lent { start, length: LENGTH }, &judged, &[]);
+        both.build()?;
+        let parts = [(0, rom(k, BLOCK)), (BLOCK, vec![0; BLOCK]), (1 << 32, vec![0; ROOM])];
+        if let Some((at, _)) = parts.iter().find(|(at, content)| slice::from_raw_parts(start.add(*at), content.len()) != content) {
+            return Err(format!("build, k {k}, length {LENGTH}: from byte {at} on is not the image and zeros"));
+        }
+        assert_eq!(munmap(start, LENGTH + PAGE), 0);
+        assert_eq!(close(file), 0);
+        Ok(both.cases)
+    }
+}
+
+/// A full ROM, of which most pages are never written: it passes the check, and a byte that is not zero is named wherever it stands.
+fn checked_beyond() -> Counted {
     let mut cases = 0;
     unsafe {
         let start = mmap(ptr::null_mut(), LENGTH + PAGE, NOTHING, PRIVATE_AND_ANONYMOUS | NOT_RESERVED, -1, 0);
