@@ -1,11 +1,11 @@
--- Refusals and their order (document 01, "Turned back, in checking order").
+-- Refusals and their order (document 01, "Turned back, in checking order", and the requests of document 02).
 -- Assumes nothing.
 use Prim.Native.Nat.{ℕ}
 use mathlib.Core.Bool.{Bool, false, cond, _||_}
 use mathlib.Core.List.{List, [], _∷_}
 use lib.Dec.{eqb}
 
--- a refusal: whether it applies, its number in the list of document 01, and its place
+-- a refusal: whether it applies, its number in the lists of documents 01 and 02, and its place
 pub record Refusal : Type 0 where
   pub applies : Bool
   pub number : ℕ

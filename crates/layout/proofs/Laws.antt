@@ -3,15 +3,16 @@
 use mathlib.Core.Path.{_≡_, sym, _∙_, ap}
 use mathlib.Core.Bool.{false, not}
 use mathlib.Core.List.{List, [], _++_, append-nil}
-use Prim.Native.Nat.{ℕ, _+_, _*_, _^_, _≤_, _<_}
+use Prim.Native.Nat.{ℕ, _+_, _*_, _%_, _^_, _≤_, _<_}
+use native.Mathlib.Nat.{mod-one}
 use native.Mathlib.Omega.{arith}
 use lib.Dec.{eqb, lit<}
-use lib.ListN.{length, take, drop, length-take, length-drop}
+use lib.ListN.{length, take, drop, length-take, length-drop, take-append-drop}
 use borrow.Author.Tests.{eq-eqb, eqb-true, not-false}
 use Rattle.bools.proofs.Bools.{clash}
 use Rattle.bools.proofs.Lowest.{lowest-passes, lowest-before, lowest-none, lowest-agrees}
-use Rattle.packing.specs.Packing.{firstByte, lastByte, spanBytes, bitAt, bitOfWord}
-use Rattle.packing.proofs.Image.{length-packedBytes, packed-word}
+use Rattle.packing.specs.Packing.{Bytes, fillBits, bytesValue, firstByte, lastByte, spanBytes, bitAt, bitOfWord}
+use Rattle.packing.proofs.Image.{length-packedBytes, packed-word, words-front-filled}
 use Rattle.packing.proofs.Words.{word-within, word-take, span-within}
 use Rattle.packing.proofs.Bits.{bit-of-packed}
 use Rattle.layout.specs.Layout.{Layout, endOf, lengthOf, imageOf, wordIn, isWrong, firstWrong, partOf}
@@ -73,6 +74,18 @@ module _ (t : Layout) (fits : Fits t) where
 
   pub own-wrong : (s : List ℕ) → firstWrong t (take (lengthOf t) s) ≡ firstWrong t s
   own-wrong s = wrong-agrees t (take (lengthOf t) s) s (own-word s)
+
+  -- a buffer that starts with the image has its words, and, where they take whole bytes, the other way round
+  pub front-right : (s : List ℕ) → take (lengthOf t) s ≡ imageOf t → (j : ℕ) → j < t .count → wordIn t s j ≡ t .word j
+  front-right s e j h =
+      ap (λ (u : List ℕ). wordIn t u j) (sym (take-append-drop (lengthOf t) s) ∙ ap (λ (u : List ℕ). u ++ drop (lengthOf t) s) e)
+      ∙ image-word j (drop (lengthOf t) s) h
+
+  pub right-front : Whole t → (s : List ℕ) → Bytes s → lengthOf t ≤ length s → ((j : ℕ) → j < t .count → wordIn t s j ≡ t .word j) → take (lengthOf t) s ≡ imageOf t
+  right-front whole s b h r =
+      let none : fillBits (t .width) (t .count) ≡ 0 = omega (arith, whole) in
+      words-front-filled (t .width) (t .word) (t .count) s (fits .one) b h r
+      (ap (λ (f : ℕ). bytesValue s 0 (lengthOf t) % 2 ^ f) none ∙ mod-one (bytesValue s 0 (lengthOf t)))
 
   -- the bytes of a word lie within a buffer that is long enough, and are as many as hold it
   module _ (s : List ℕ) (j : ℕ) (h : j < t .count) (long : lengthOf t ≤ length s) where

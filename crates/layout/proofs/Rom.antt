@@ -16,7 +16,8 @@ use Rattle.bools.proofs.Lowest.{lowest-passes, lowest-before, lowest-none}
 use Rattle.packing.specs.Packing.{Bytes, fillBits, bytesValue, bitAt}
 use Rattle.packing.proofs.Bits.{bit-of-filling}
 use Rattle.packing.proofs.Image.{words-front-filled}
-use Rattle.tail.specs.Tail.{hasOneFrom, zeros, clearedFrom}
+use Rattle.tail.specs.Tail.{hasOneFrom, zeros}
+use Rattle.tail.specs.Inner.{clearedFrom}
 use Rattle.tail.proofs.Laws.{none-bits, byte-before, byte-zero, none-zero, one-set}
 use Rattle.tail.proofs.Bits.{one-bit}
 use Rattle.tail.proofs.Writing.{length-zeros, bytes-zeros}

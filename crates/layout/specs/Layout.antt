@@ -27,7 +27,7 @@ lengthOf t = byteCount (t .width) (t .count)
 abbrev pub imageOf : Layout → List ℕ
 imageOf t = packedBytes (t .width) (t .word) (t .count)
 
--- its full ROM of n bytes: the image, and zero bytes to the end
+-- its full ROM of n bytes, which are as many as the image has or more: the image, and zero bytes to the end
 abbrev pub romOf : Layout → ℕ → List ℕ
 romOf t n = imageOf t ++ zeros (n - lengthOf t)
 

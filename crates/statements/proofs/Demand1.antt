@@ -12,9 +12,9 @@
 --    check-value, node-refused-value, reciprocal-refused-value.
 -- 4. Where bytes are shown, there is no number, and the call is turned back by an empty part: part-empty; as place and number of bytes,
 --    part-at-front, part-none. What is shown otherwise: part-length, part-from, part-bytes.
--- 5. Every lent byte is left as found: build-refused-leaves. Where the builder serves it writes all of them, and their number stays:
---    build-leaves-length, and built-rom in Demand2. Of these calls the builder alone is lent a `&mut [u8]`. What is behind a `&[u8]` no call can write, by its type
---    (docs/DECISIONS.md, "Bytes behind `&[u8]`").
+-- 5. Where a call is turned back, every lent byte is left as found: build-refused-leaves. Where the builder serves, the buffer is the image and
+--    zeros (built-rom, in Demand2), of the length that it had: build-leaves-length. Of these calls the builder alone is lent a `&mut [u8]`. What is
+--    behind a `&[u8]` no call can write, by its type (docs/DECISIONS.md, "Bytes behind `&[u8]`").
 -- 6. What breaks no limit is served. The number is 0 exactly when none is broken: build-serves, check-serves, node-serves, reciprocal-serves.
 --    The place is then 0: build-place, check-place, node-place-0, reciprocal-served-place. The value is 0 of the builder and the check
 --    (build-value, check-value), the node (node-served-value) and the reciprocal (given-is-R, in Demand3).
@@ -54,7 +54,7 @@ use Rattle.statements.specs.Terms.{IsPrecision, IsLongEnough, IsRightAt,
 use Rattle.statements.proofs.Iff.{joined, both, under, row3, row4, same, some-wrong, none-wrong, some-past, none-past}
 use Rattle.statements.proofs.Built.{left-as-found, built-as-long}
 use Rattle.statements.proofs.Nodes.{served-decodes}
-use Rattle.statements.proofs.Numbers.{alone, refuses-1, refuses-2, later-number, of-words, first-wrong, number-7, set-place, set-bit, node-number-3, node-number-6, node-number-0, node-place}
+use Rattle.statements.proofs.Numbers.{alone, refuses-1, refuses-2, later-number, of-content, first-wrong, number-7, set-place, set-bit, node-number-3, node-number-6, node-number-0, node-place}
 use Rattle.statements.proofs.Reciprocals
 use Rattle.statements.proofs.Parts.{shown-empty, shown-length, shown-first, shown-bytes, shown-none, hidden-at-front}
 
@@ -93,15 +93,15 @@ module _ (k : ℕ) (s : List ℕ) where
 -- The check.
 module _ (k : ℕ) (s : List ℕ) where
   pub check-refuses-1 : (checkOutcome k s .number ≡ 1) ↔ (IsPrecision k → ⊥)
-  check-refuses-1 = refuses-1 k s (of-words k s) 0 tt
+  check-refuses-1 = refuses-1 k s (of-content k s) 0 tt
 
   pub check-refuses-2 : (checkOutcome k s .number ≡ 2) ↔ (IsPrecision k × (length s < imageLength k))
-  check-refuses-2 = refuses-2 k s (of-words k s) 0 tt
+  check-refuses-2 = refuses-2 k s (of-content k s) 0 tt
 
   -- 6: a word is not the construction's, whatever the tail holds
   pub check-refuses-6 : (checkOutcome k s .number ≡ 6) ↔ (IsPrecision k × IsLongEnough k s × ((j : ℕ) × (j < 2 ^ k) × (IsRightAt k s j → ⊥)))
   check-refuses-6 =
-      joined (later-number k s (of-words k s) 0 6 tt tt)
+      joined (later-number k s (of-content k s) 0 6 tt tt)
       (joined (both same (both same (joined (first (imageRefusal (plain k) s) (tailRefusal (plain k) s ∷ []) 0 tt) (some-wrong k s)))) row3)
 
   -- 7: the words are right, and a byte past the image is not zero
@@ -110,7 +110,7 @@ module _ (k : ℕ) (s : List ℕ) where
 
   pub check-serves : Bytes s → (checkOutcome k s .number ≡ 0) ↔ (IsPrecision k × IsLongEnough k s × ((j : ℕ) → j < 2 ^ k → IsRightAt k s j) × IsTailZero k s)
   check-serves bytes =
-      joined (later-number k s (of-words k s) 0 0 tt tt)
+      joined (later-number k s (of-content k s) 0 0 tt tt)
       (joined (under (λ p. both same
       (joined (later 0 (imageRefusal (plain k) s) (tailRefusal (plain k) s ∷ []) 0 tt)
       (both (none-wrong k s) (joined (later 0 (tailRefusal (plain k) s) [] 0 tt) (joined alone (none-past k s p bytes))))))) row4)

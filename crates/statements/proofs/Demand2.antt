@@ -14,13 +14,15 @@
 --    (step-i, step-f).
 -- 6. Nodes that are read back from a built image are those that were put in: node-read-back.
 -- 7. A buffer passes the check exactly when all words of its image are right and its tail is zero: check-passes-words; exactly when it is the
---    image and then zeros: check-passes-rom. One that was built passes: built-passes.
--- 8. For all contents: what a buffer s holds, also before it is built, is any list of numbers. Only word-bit, check-passes-words and
---    check-passes-rom ask that these are bytes.
+--    image and then zeros: check-passes-rom. The words are right exactly when its first bytes are the image: words-right-bytes. A buffer that
+--    was built passes: built-passes.
+-- 8. For all contents: what a buffer s holds, also before it is built, is any list of numbers. Only word-bit, check-passes-words,
+--    words-right-bytes and check-passes-rom ask that these are bytes.
 --
 -- Which words and bytes a call reads is said by what its answer depends on (docs/DECISIONS.md, "Reading"): node-by-its-word, check-by-words,
 -- reciprocal-by-words, reciprocal-by-lower-word, word-by-its-bytes; none past the image: node-by-image, reciprocal-by-image, part-by-image,
--- part-place-by-image, and, where a word is wrong, check-by-image. The reciprocal reads both words, whatever f is: lower-word-named, upper-word-named, upper-word-named-at-0.
+-- part-place-by-image, and, where a word is wrong, check-by-image. The reciprocal reads both words, whatever f is: lower-word-named,
+-- upper-word-named, upper-word-named-at-0.
 --
 -- Each theorem assumes no more than ranges of its numbers: that k is a precision or from 1 on, that n is from 1 to 63, or at most or at least
 -- 2k + 3, that X is normalised, that a buffer is long enough, that its elements are bytes; and, where two buffers are compared or a wrong word is
@@ -46,7 +48,7 @@ use Rattle.answers.specs.Refusal.{served}
 use Rattle.image.specs.Image.{plain, image, wordOf}
 use Rattle.image.specs.Calls.{buildLeaves, checkOutcome, nodeOutcome, shownPart, shownFrom}
 use Rattle.layout.proofs.Laws as layouts
-use Rattle.image.proofs.Laws.{eighths, eighth-of-bits}
+use Rattle.image.proofs.Laws.{plain-fits, eighths, whole-bytes, eighth-of-bits}
 use Rattle.operand.specs.Operand.{cutOperand}
 use Rattle.operand.proofs.Laws.{cut-long, cut-short}
 use Rattle.interpolation.specs.Algorithm.{index, nodeNumber, fraction, cutProductSum}
@@ -212,7 +214,11 @@ module _ (k : ℕ) (p : IsPrecision k) where
       → (checkOutcome k s .number ≡ 0) ↔ (((j : ℕ) → j < 2 ^ k → wordOf k s j ≡ node k j % 2 ^ (2 * k + 2)) × ((i : ℕ) → imageLength k ≤ i → i < length s → getD s i 0 ≡ 0))
   check-passes-words s b l = joined (check-serves k s b) (λ t. (t .2, t .3), λ t. (p, l, t .0, t .1))
 
-  -- and exactly when it is the image and then zeros
+  -- the words are right exactly when the first bytes are the image
+  pub words-right-bytes : (s : List ℕ) → Bytes s → IsLongEnough k s → ((j : ℕ) → j < 2 ^ k → wordOf k s j ≡ node k j % 2 ^ (2 * k + 2)) ↔ (take (imageLength k) s ≡ image k)
+  words-right-bytes s b l = (layouts.right-front (plain k) (plain-fits k) (whole-bytes k (p .0)) s b l, layouts.front-right (plain k) (plain-fits k) s)
+
+  -- and the buffer passes exactly when it is the image and then zeros
   pub check-passes-rom : (s : List ℕ) → Bytes s → IsLongEnough k s → (checkOutcome k s .number ≡ 0) ↔ (s ≡ image k ++ zeros (length s - imageLength k))
   check-passes-rom s b l = joined (check-passes-words s b l) (Built.right-is-rom k s p b l)
 
@@ -222,7 +228,8 @@ module _ (k : ℕ) (s s' : List ℕ) (l : IsLongEnough k s) (m : IsLongEnough k 
   pub node-by-its-word : (j : ℕ) → (j < 2 ^ k → wordOf k s j ≡ wordOf k s' j) → nodeOutcome k s j ≡ nodeOutcome k s' j
   node-by-its-word = Depends.node-same k s s' l m
 
-  -- where a word is wrong, the check's depends on the words of the image alone, whatever the tail holds; where all are right, Demand1 has it
+  -- where a word is wrong, the check's depends on the words of the image alone, whatever the tail holds; where all are
+  -- right, the tail decides (check-serves, check-refuses-7 and check-place-7 in Demand1)
   pub check-by-words : (j : ℕ) → j < 2 ^ k → (IsRightAt k s j → ⊥) → ((i : ℕ) → i < 2 ^ k → wordOf k s i ≡ wordOf k s' i) → checkOutcome k s ≡ checkOutcome k s'
   check-by-words = Depends.check-same k s s' l m
 

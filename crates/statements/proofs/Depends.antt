@@ -37,7 +37,7 @@ use Rattle.interpolation.specs.Calls.{cutRefusals, reciprocalOutcome}
 use Rattle.interpolation.specs.Inner.{cutOutcome}
 use Rattle.statements.specs.Terms.{IsPrecision, IsLongEnough, IsRightAt}
 use Rattle.statements.proofs.Iff.{is-below, some-wrong}
-use Rattle.statements.proofs.Numbers.{of-words}
+use Rattle.statements.proofs.Numbers.{of-content}
 use Rattle.statements.proofs.Reciprocals.{has-word}
 use Rattle.statements.proofs.Parts.{shown-empty, shown-length, shown-bytes}
 
@@ -105,7 +105,7 @@ module _ (k : ℕ) (s t : List ℕ) (l : IsLongEnough k s) (m : IsLongEnough k t
   check-same j h f e =
       let agree : firstWrong (plain k) s ≡ firstWrong (plain k) t = wrong-agrees (plain k) s t e in
       let wrong : firstWrong (plain k) s < 2 ^ k = is-below (firstWrong (plain k) s) (2 ^ k) .0 (some-wrong k s .1 (j, h, f)) in
-      rest-same (of-words k s) (of-words k t) 0 0
+      rest-same (of-content k s) (of-content k t) 0 0
       (applied (imageRefusal (plain k) s) (tailRefusal (plain k) s ∷ []) 0 (lt-ltb (firstWrong (plain k) s) (2 ^ k) wrong)
       ∙ ap (λ (n : ℕ). record { number = 6; place = n; value = 0 }) agree
       ∙ sym (applied (imageRefusal (plain k) t) (tailRefusal (plain k) t ∷ []) 0 (lt-ltb (firstWrong (plain k) t) (2 ^ k) (omega (arith, wrong, agree)))))

@@ -1,4 +1,4 @@
--- The set examples of document 01 that are marked P, those of document 02 for Q-2, ours for Q-1, and the printed table hold of the
+-- The set examples of document 01 that are marked P, that of document 02 for Q-2, ours for Q-1 and Q-2, and the printed table hold of the
 -- definitions that the contracts cite: one statement for all tables, by computation.
 -- Assumes nothing.
 use mathlib.Core.Path.{refl}

@@ -57,8 +57,8 @@ module _ (k : ℕ) (s : List ℕ) (rs : List Refusal) (v : ℕ) where
 -- the check
 module _ (k : ℕ) (s : List ℕ) where
   -- its last two refusals, for a wrong word and for a wrong tail
-  abbrev pub of-words : List Refusal
-  of-words = imageRefusal (plain k) s ∷ tailRefusal (plain k) s ∷ []
+  abbrev pub of-content : List Refusal
+  of-content = imageRefusal (plain k) s ∷ tailRefusal (plain k) s ∷ []
 
   pub first-wrong : IsPrecision k → IsLongEnough k s → (j : ℕ) → j < 2 ^ k → (IsRightAt k s j → ⊥)
       → (checkOutcome k s .place < 2 ^ k) × (IsRightAt k s (checkOutcome k s .place) → ⊥) × ((i : ℕ) → i < checkOutcome k s .place → IsRightAt k s i)
@@ -71,7 +71,7 @@ module _ (k : ℕ) (s : List ℕ) where
   pub number-7 : (checkOutcome k s .number ≡ 7)
       ↔ (IsPrecision k × (IsLongEnough k s × (((j : ℕ) → j < 2 ^ k → IsRightAt k s j) × T (ltb (firstPast (plain k) s) (length s)))))
   number-7 =
-      joined (later-number k s of-words 0 7 tt tt)
+      joined (later-number k s of-content 0 7 tt tt)
       (both same (both same
       (joined (later 7 (imageRefusal (plain k) s) (tailRefusal (plain k) s ∷ []) 0 tt) (both (none-wrong k s) (first (tailRefusal (plain k) s) [] 0 tt)))))
 

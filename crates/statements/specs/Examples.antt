@@ -1,5 +1,5 @@
--- The set examples of document 01 that are marked P, those of document 02 for Q-2, ours for Q-1, and the printed table, as literals, and what each says of the
--- definitions that the contracts cite.
+-- The set examples of document 01 that are marked P, that of document 02 for Q-2, ours for Q-1 and Q-2, and the printed table, as literals,
+-- and what each says of the definitions that the contracts cite.
 -- Assumes nothing.
 use mathlib.Core.Path.{_≡_}
 use mathlib.Core.List.{List, [], _∷_, _++_, map}

@@ -8,7 +8,8 @@ use native.Mathlib.Omega.{arith}
 use lib.ListN.{length, take, drop, set, getD, replicate-append-replicate, length-append, length-replicate, length-take, take-append-drop, drop-of-length-le}
 use lib.Seq.{set-at, drop-cons}
 use Rattle.packing.specs.Packing.{Bytes}
-use Rattle.tail.specs.Tail.{zeros, clearedFrom}
+use Rattle.tail.specs.Tail.{zeros}
+use Rattle.tail.specs.Inner.{clearedFrom}
 
 pub length-zeros : (n : ℕ) → length (zeros n) ≡ n
 length-zeros n = length-replicate n 0

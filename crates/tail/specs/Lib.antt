@@ -1,1 +1,2 @@
 pub mod Tail
+pub mod Inner

@@ -2,9 +2,9 @@
 -- Assumes nothing.
 use Prim.Native.Nat.{ℕ, _-_, _*_, _%_, _^_}
 use mathlib.Core.Bool.{Bool, not}
-use mathlib.Core.List.{List, _++_}
+use mathlib.Core.List.{List}
 use lib.Dec.{eqb}
-use lib.ListN.{getD, length, take, replicate}
+use lib.ListN.{getD, length, replicate}
 use Rattle.bools.specs.Lowest.{lowest}
 
 -- what byte i holds of the bits from bit b on, differences stopping at 0: all eight of its bits, its lowest ones, or none
@@ -22,7 +22,3 @@ firstOneFrom b s = lowest (hasOneFrom b s) (length s)
 -- n zero bytes
 abbrev pub zeros : ℕ → List ℕ
 zeros n = replicate n 0
-
--- a byte list with zero bytes from byte n on
-abbrev pub clearedFrom : ℕ → List ℕ → List ℕ
-clearedFrom n s = take n s ++ zeros (length s - n)

@@ -2,7 +2,8 @@
 ghost use mathlib.Core.Path.{_≡_};
 ghost use Prim.Native.Nat.{ℕ, _+_, _*_, _≤_, _<_};
 ghost use lib.ListN.{length, getD};
-ghost use Rattle.tail.specs.Tail.{firstOneFrom, clearedFrom};
+ghost use Rattle.tail.specs.Tail.{firstOneFrom};
+ghost use Rattle.tail.specs.Inner.{clearedFrom};
 
 // How many bytes are looked at in one turn. The compiler makes four readings of them, without a branch.
 const BLOCK: usize = 64;

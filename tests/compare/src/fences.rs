@@ -1,6 +1,6 @@
 //! Buffers between pages that cannot be touched: a call that reads or writes a byte outside of what it is lent does not come back. All
 //! calls but the builder's are made where nothing can be written either. For the builder and the check the pages stand behind the buffer,
-//! for the others also behind the image of a longer one.
+//! for the others also behind the image, where the buffer is said to be longer.
 use crate::both::{called, Both};
 use crate::independent::{power, precisions, rom, table, Judged, MOST_FRACTION_BITS};
 use crate::library::Lent;

@@ -51,7 +51,7 @@ fn sorted<N: Ord>(mut numbers: Vec<N>) -> Vec<N> {
 /// The bytes that a buffer has at most, though it may be said to have more.
 const ROOM: usize = 32768;
 
-/// Lengths about each image length, and huge ones. The calls but the builder's and the check look at nothing past the image, so that a buffer
+/// Lengths about each image length, and huge ones. The calls but the builder and the check look at nothing past the image, so that a buffer
 /// which has one may be said to have any length: this goes beyond what a caller may do.
 fn asked_lengths(k: u32) -> Vec<usize> {
     let mut lengths = vec![0, 1, 2, 28671, 28672, ROOM, (1 << 31) - 1, 1 << 31];

@@ -1,6 +1,6 @@
 //! Tails, what stands in a buffer past the image: zeros written by the builder to the buffer's end, and read by the check; the other calls do
-//! not depend on them. Lengths of 0 to 70 bytes go over a block of 64 and a few bytes on each side of it; the buffers start at each of the
-//! 64 bytes of a line of the cache.
+//! not depend on them. Lengths of 0 to 70 bytes go over a block of 64 and a few bytes on each side of it; the buffers of images up to
+//! precision 9 start at each of the 64 bytes of a line of the cache, those of the longer ones at eight of these, and what the builder writes at all.
 use crate::both::{told, Both};
 use crate::independent::{power, precisions, rom, table, Judged};
 use crate::lent::{Buffer, Guards};
@@ -13,7 +13,7 @@ fn lengths(step: usize) -> impl Iterator<Item = usize> {
 }
 
 /// A precision, and how many bytes after a multiple of 64 a buffer starts: one start alone where the lengths are not all. The long images,
-/// whose words take most of a check's time, have fewer starts than all too.
+/// whose words take most of a check's time, have eight starts.
 fn works(step: usize, every_up_to: u32) -> Vec<(u32, usize)> {
     let starts = |k: u32| match step {
         1 if k <= every_up_to => (0..64).collect(),

@@ -15,7 +15,7 @@ use Rattle.answers.specs.Refusal.{Outcome}
 use Rattle.answers.specs.Answer.{done}
 use Rattle.nodes.specs.Inner.{quotientsOf}
 use Rattle.nodes.specs.declared.Quotients.{Quotients}
-use Rattle.tail.specs.Tail.{clearedFrom}
+use Rattle.tail.specs.Inner.{clearedFrom}
 use Rattle.layout.specs.Layout.{imageOf, lengthOf, romOf}
 use Rattle.layout.proofs.Rom.{rom-written}
 use Rattle.image.specs.Image.{plain}
