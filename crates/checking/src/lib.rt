@@ -38,8 +38,8 @@ fn first_wrong(image: &[u8], table: Quotients) -> u32
     count
 }
 
-// Whether every word of the image is the construction's and nothing but zeros stands behind the last one. Where a word is wrong, the place is the lowest
-// node of a wrong word; and where the words are right and a bit behind them is set, the lowest byte with such a bit.
+// Whether every word of the image is the construction's and nothing but zeros stands behind the last one, to the buffer's end. Where a word is wrong,
+// the place is the lowest node of a wrong word; where the words are right and a bit behind them is one, it is the lowest byte with such a bit.
 pub fn check(k: Precision, image: &[u8]) -> Done
     ensures { λ r. ⌜ r ≡ done (checkOutcome (k .0) (now (image .entry))) ⌝ }
 {

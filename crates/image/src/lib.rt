@@ -19,8 +19,9 @@ pub fn refusal_number(k: Precision, length: usize) -> u32
     0
 }
 
-// The image's own bytes, the front of the buffer; none where k is no precision or the buffer is too short. Words are read
-// from these alone, so that no byte past the image is taken for a part of one; only the check looks at what follows, by the crate `tail`. The promise has the bytes, and that they stand where the buffer does.
+// The image's own bytes, the front of the buffer; none where k is no precision or the buffer is too short. Words are read from these alone, so that
+// no byte past the image is taken for a part of one; only the check looks at what follows, by the crate `tail`. The promise has the bytes, and that
+// they stand where the buffer does.
 pub fn own_bytes(k: Precision, image: &[u8]) -> &[u8]
     ensures { λ r. ⌜ now r ≡ ownBytes (k .0) (now (image .entry)) ⌝ }
     ensures { λ r. ⌜ r .ptr .0 ≡ image .entry .ptr .0 ⌝ }
