@@ -45,18 +45,28 @@ module _ (b : ℕ) (s : List ℕ) where
           (λ g. ap (λ (x : ℕ). not (eqb x 0)) (byte-from (8 * (b / 8 + 1)) s i (omega (arith, g)) ∙ sym (byte-from b s i (omega (arith, g)))))
           (below-or-not i (b / 8 + 1))
 
--- the bits begin behind the last byte
+first-set-requires : tie.Need-first-set-requires
+first-set-requires c κs = search needs
+
+-- the bits begin with a byte
 returns : tie.Need-returns
 returns c =
-    let a = c .before .before .args in
-    let past : length (a .s .now) ≤ a .bit / 8 = c .if1 .taken in
+    let a = c .before .before .before .args in
+    let whole : 8 * (a .bit / 8) ≡ a .bit = omega (arith, c .before .if1 .taken) in
+    c .first-set .ensures ∙ ap (λ (b : ℕ). firstOneFrom b (a .s .now)) whole
+
+-- they begin behind the last byte
+returns-2 : tie.Need-returns-2
+returns-2 c =
+    let a = c .before .before .before .args in
+    let past : length (a .s .now) ≤ a .bit / 8 = c .if2 .taken in
     sym (lowest-none (hasOneFrom (a .bit) (a .s .now)) (length (a .s .now)) (λ i h. before (a .bit) (a .s .now) i (omega (arith, h, past))))
 
 shared-slice-read-low : tie.Need-shared-slice-read-low
 shared-slice-read-low c = search needs
 
 cast-low : tie.Need-cast-low
-cast-low c = omega (arith, c .shared-slice-known2 .given (c .before .before .before .args .bit / 8))
+cast-low c = omega (arith, c .shared-slice-known2 .given (c .before .before .before .before .args .bit / 8))
 
 sub-low : tie.Need-sub-low
 sub-low c = search needs
@@ -68,39 +78,44 @@ low-requires : tie.Need-low-requires
 low-requires c κs = search needs
 
 -- what is told of the byte of the first bit
-told : (c : tie.After-low) → c .low .result ≡ bitsFrom (c .before .before .before .before .args .bit) (c .before .before .before .before .args .s .now) (c .before .before .before .before .args .bit / 8)
-told c = let a = c .before .before .before .before .args in c .low .ensures ∙ here (a .bit) (a .s .now)
+abbrev begin : tie.After-low → tie.Start
+begin c = c .before .before .before .before .before
 
-returns-2 : tie.Need-returns-2
-returns-2 c =
-    let a = c .before .before .before .before .before .args in
+told : (c : tie.After-low) → c .low .result ≡ bitsFrom (begin c .args .bit) (begin c .args .s .now) (begin c .args .bit / 8)
+told c = let a = begin c .args in c .low .ensures ∙ here (a .bit) (a .s .now)
+
+returns-3 : tie.Need-returns-3
+returns-3 c =
+    let a = begin (c .before) .args in
     sym (lowest-is (hasOneFrom (a .bit) (a .s .now)) (length (a .s .now)) (a .bit / 8)
-    (omega (arith, c .before .before .before .if1 .left))
-    (bits-one (a .bit) (a .s .now) (a .bit / 8) (λ e. c .if2 .taken (told (c .before) ∙ e)))
+    (omega (arith, c .before .before .before .if2 .left))
+    (bits-one (a .bit) (a .s .now) (a .bit / 8) (λ e. c .if3 .taken (told (c .before) ∙ e)))
     (before (a .bit) (a .s .now)))
 
 add-first-set : tie.Need-add-first-set
 add-first-set c = search needs
 
-first-set-requires : tie.Need-first-set-requires
-first-set-requires c κs = search needs
+first-set-requires-2 : tie.Need-first-set-requires-2
+first-set-requires-2 c κs = search needs
 
-returns-3 : tie.Need-returns-3
-returns-3 c =
-    let a = c .before .before .before .before .before .before .args in
-    c .first-set .ensures ∙ pass (a .bit) (a .s .now) (sym (told (c .before .before)) ∙ c .before .if2 .left)
+returns-4 : tie.Need-returns-4
+returns-4 c =
+    let a = begin (c .before .before) .args in
+    c .first-set2 .ensures ∙ pass (a .bit) (a .s .now) (sym (told (c .before .before)) ∙ c .before .if3 .left)
 
 pub first-one-spec : {M : Type 1} → statement M
 first-one-spec =
     tie.close
     (tie.spec
+    first-set-requires
     returns
+    returns-2
     shared-slice-read-low
     cast-low
     sub-low
     cast-low-2
     low-requires
-    returns-2
+    returns-3
     add-first-set
-    first-set-requires
-    returns-3)
+    first-set-requires-2
+    returns-4)

@@ -1,11 +1,10 @@
--- `tail::first_set` meets its contract. The loop's invariant: every byte from the first one up to the next is 0. The measure is the number of
--- bytes left.
+-- `tail::first_set` meets its contract: every byte that was passed is 0, and the one at which the last passing ends is not, or is not there.
 -- Assumes nothing.
-use mathlib.Core.Path.{_≡_, sym, ap, _∙_}
+use mathlib.Core.Path.{_≡_, refl, sym, ap, _∙_}
 use mathlib.Core.Logic.{⊎-elim}
 use mathlib.Core.Bool.{false}
 use mathlib.Core.List.{List}
-use Prim.Native.Nat.{ℕ, _+_, _-_, _*_, _≤_, _<_}
+use Prim.Native.Nat.{ℕ, _+_, _*_, _≤_, _<_}
 use native.Mathlib.Nat.{add-zero}
 use native.Mathlib.Omega.{arith}
 use lib.ListN.{length, getD}
@@ -13,111 +12,57 @@ use borrow.Author.Count.{below-none, below-more}
 use borrow.Author.Needs.{needs}
 use Rattle.bools.proofs.Bools.{below-or-not}
 use Rattle.bools.proofs.Lowest.{lowest-is, lowest-none}
-use Rattle.tail.specs.Tail.{hasOneFrom}
+use Rattle.tail.specs.Tail.{hasOneFrom, firstOneFrom}
+use Rattle.tail.specs.Inner.{Passed}
 use Rattle.tail.proofs.Laws.{byte-before, byte-zero, set-one}
 use Rattle.tail.proofs.first_set.Statement.{statement}
 use Rattle.tail.proofs.first_set.Tie as tie
 
--- the bytes from `from` up to `at` are 0
-abbrev ZeroTo : List ℕ → ℕ → ℕ → Type 0
-ZeroTo s from at = (i : ℕ) → from ≤ i → i < at → getD s i 0 ≡ 0
+module _ (s : List ℕ) (from r : ℕ) (zero : (i : ℕ) → from ≤ i → i < r → getD s i 0 ≡ 0) where
+  -- no byte up to there has a one behind the bits of the bytes before the first
+  none-before : (i : ℕ) → i < r → hasOneFrom (8 * from) s i ≡ false
+  none-before i h =
+      ⊎-elim (λ l. byte-before (8 * from) s i (omega (arith, l))) (λ g. byte-zero (8 * from) s i (zero i g h)) (below-or-not i from)
 
-abbrev Inv-loop : tie.InvT-loop
-Inv-loop s from at₀ at = (from ≤ at) × (at ≤ length s) × ZeroTo s from at
+  -- so the byte there is the lowest that has one, or there is none
+  lowest-there : from ≤ r → r ≤ length s → getD s r 0 < 256 → (r < length s → getD s r 0 ≡ 0 → ⊥) → r ≡ firstOneFrom (8 * from) s
+  lowest-there start end byte set =
+      ⊎-elim (λ l. sym (lowest-is (hasOneFrom (8 * from) s) (length s) r l (set-one (8 * from) s r (omega (arith, start)) byte (set l)) none-before))
+      (λ g. let all : r ≡ length s = omega (arith, end, g) in all ∙ sym (lowest-none (hasOneFrom (8 * from) s) (length s) (λ i h. none-before i (omega (arith, h, g)))))
+      (below-or-not r (length s))
 
-abbrev μ-loop : tie.MeasureT-loop
-μ-loop s from at₀ at = length s - at
+-- bytes that are passed one after the other
+then : (s : List ℕ) (from mid r : ℕ) → ((i : ℕ) → from ≤ i → i < mid → getD s i 0 ≡ 0) → ((i : ℕ) → mid ≤ i → i < r → getD s i 0 ≡ 0) → (i : ℕ) → from ≤ i → i < r → getD s i 0 ≡ 0
+then s from mid r z y i f h = ⊎-elim (λ l. z i f l) (λ g. y i g h) (below-or-not i mid)
 
--- so no byte before `at` has a one behind the bits of the first ones
-none-before : (s : List ℕ) (from at : ℕ) → ZeroTo s from at → (i : ℕ) → i < at → hasOneFrom (8 * from) s i ≡ false
-none-before s from at z i h =
-    ⊎-elim (λ l. byte-before (8 * from) s i (omega (arith, l))) (λ g. byte-zero (8 * from) s i (z i g h)) (below-or-not i from)
-
--- one byte more that is 0, or several
-zero-more : (s : List ℕ) (from at n : ℕ) → ZeroTo s from at → ((i : ℕ) → i < n → getD s (at + i) 0 ≡ 0) → ZeroTo s from (at + n)
-zero-more s from at n z more i f h =
-    ⊎-elim (λ l. z i f l) (λ g. ap (λ (x : ℕ). getD s x 0) (there g) ∙ more (i - at) (omega (arith, g, h))) (below-or-not i at)
-  where
-    there : at ≤ i → i ≡ at + (i - at)
-    there g = omega (arith, g)
-
-loop-holds : tie.Need-loop-holds Inv-loop μ-loop
-loop-holds c = (omega arith, c .before .pre, λ i f h. absurd (omega (arith, f, h)))
-
-sub-if1 : tie.Need-sub-if1 Inv-loop μ-loop
-sub-if1 c = search needs
-
-joined-requires : tie.Need-joined-requires Inv-loop μ-loop
-joined-requires c κs = omega (arith, c .if1 .taken, c .before .loop-test .taken)
-
--- a block has its place in the buffer
-add-at : tie.Need-add-at Inv-loop μ-loop
-add-at c = omega (arith, c .before .before .if1 .taken, c .before .before .before .loop-test .taken, c .before .before .before .before .before .before .good .0 .0)
-
-loop-less : tie.Need-loop-less Inv-loop μ-loop
-loop-less c = omega (arith, c .before .before .before .loop-test .taken)
-
-loop-again : tie.Need-loop-again Inv-loop μ-loop
-loop-again c =
-    let turn = c .before .before .before .before .loop in
-    let a = c .before .before .before .before .before .before .args in (
-      omega (arith, turn .inv .0),
-      omega (arith, c .before .before .if1 .taken, c .before .before .before .loop-test .taken),
-      zero-more (a .s .now) (a .from) (turn .at) 64 (turn .inv .2) (c .before .joined .ensures (c .if2 .taken)),
-    )
-
-shared-slice-read-if3 : tie.Need-shared-slice-read-if3 Inv-loop μ-loop
-shared-slice-read-if3 c = omega (arith, c .before .before .loop-test .taken)
-
--- the first byte that is not 0
-returns : tie.Need-returns Inv-loop μ-loop
+returns : tie.Need-returns
 returns c =
-    let turn = c .before .before .before .before .loop in
-    let a = c .before .before .before .before .before .before .args in
-    let byte : getD (a .s .now) (turn .at) 0 < 256 = omega (arith, c .before .shared-slice-known2 .given (turn .at)) in
-    sym (lowest-is (hasOneFrom (8 * a .from) (a .s .now)) (length (a .s .now)) (turn .at)
-    (c .before .before .before .loop-test .taken)
-    (set-one (8 * a .from) (a .s .now) (turn .at) (omega (arith, turn .inv .0)) byte (c .if3 .taken))
-    (none-before (a .s .now) (a .from) (turn .at) (turn .inv .2)))
+    let a = c .before .before .args in
+    sym (lowest-none (hasOneFrom (8 * a .from) (a .s .now)) (length (a .s .now)) (λ i h. byte-before (8 * a .from) (a .s .now) i (omega (arith, h, c .if1 .taken))))
 
-add-at-2 : tie.Need-add-at-2 Inv-loop μ-loop
-add-at-2 c = omega (arith, c .before .before .before .loop-test .taken, c .before .before .before .before .before .before .good .0 .0)
+passed-requires : tie.Need-passed-requires
+passed-requires c κs = (omega arith, omega (arith, c .if1 .left))
 
-loop-less-2 : tie.Need-loop-less-2 Inv-loop μ-loop
-loop-less-2 c = omega (arith, c .before .before .before .loop-test .taken)
+passed-requires-2 : tie.Need-passed-requires-2
+passed-requires-2 c κs = (omega arith, c .passed .ensures .end)
 
-loop-again-2 : tie.Need-loop-again-2 Inv-loop μ-loop
-loop-again-2 c =
-    let turn = c .before .before .before .before .loop in
-    let a = c .before .before .before .before .before .before .args in (
-      omega (arith, turn .inv .0),
-      omega (arith, c .before .before .before .loop-test .taken),
-      zero-more (a .s .now) (a .from) (turn .at) 1 (turn .inv .2) (below-more _ 0 (below-none _) (ap (λ (x : ℕ). getD (a .s .now) x 0) (add-zero (turn .at)) ∙ c .if3 .left)),
-    )
+passed-requires-3 : tie.Need-passed-requires-3
+passed-requires-3 c κs = (omega arith, c .passed2 .ensures .end)
 
--- there is none
-returns-2 : tie.Need-returns-2 Inv-loop μ-loop
+returns-2 : tie.Need-returns-2
 returns-2 c =
-    let turn = c .before .loop in
-    let a = c .before .before .before .args in
-    let all : length (a .s .now) ≤ turn .at = c .loop-test .left in
-    sym (lowest-none (hasOneFrom (8 * a .from) (a .s .now)) (length (a .s .now)) (λ i h. none-before (a .s .now) (a .from) (turn .at) (turn .inv .2) i (omega (arith, h, all))))
+    let a = c .before .before .before .before .before .args in
+    let s = a .s .now in
+    let large = c .before .before .passed in
+    let small = c .before .passed2 in
+    let last = c .passed3 in
+    let r = last .result in
+    lowest-there s (a .from) r
+    (then s (a .from) (small .result) r (then s (a .from) (large .result) (small .result) (large .ensures .zero) (small .ensures .zero)) (last .ensures .zero))
+    (omega (arith, large .ensures .start, small .ensures .start, last .ensures .start))
+    (last .ensures .end)
+    (omega (arith, c .before .before .before .before .shared-slice-known .given r))
+    (λ l e. last .ensures .next (omega (arith, l)) (below-more _ 0 (below-none _) (ap (λ (x : ℕ). getD s x 0) (add-zero r) ∙ e)))
 
 pub first-set-spec : {M : Type 1} → statement M
-first-set-spec =
-    tie.close
-    (tie.spec
-    Inv-loop
-    μ-loop
-    loop-holds
-    sub-if1
-    joined-requires
-    add-at
-    loop-less
-    loop-again
-    shared-slice-read-if3
-    returns
-    add-at-2
-    loop-less-2
-    loop-again-2
-    returns-2)
+first-set-spec = tie.close (tie.spec returns passed-requires passed-requires-2 passed-requires-3 returns-2)

@@ -1,12 +1,13 @@
--- `tail::joined` meets its contract. The loop's invariant: where the bytes joined so far make 0, each of them is 0. The measure is the number of
+-- `tail::joined` meets its contract. The loop's invariant: the bytes joined so far make 0 exactly where each of them is 0. The measure is the number of
 -- bytes left.
 -- Assumes nothing.
-use mathlib.Core.Path.{_≡_}
+use mathlib.Core.Path.{_≡_, refl, ap₂, _∙_}
 use Prim.Native.Nat.{ℕ, _+_, _-_, _≤_, _<_}
 use native.Mathlib.Omega.{arith}
 use lib.Bits.{bitOr, or-add-and, and-le-l, and-le-r}
 use lib.ListN.{getD}
 use borrow.Author.Count.{below-none, below-more}
+use Rattle.tail.specs.Inner.{IsZero}
 use Rattle.tail.proofs.joined.Statement.{statement}
 use Rattle.tail.proofs.joined.Tie as tie
 
@@ -15,13 +16,13 @@ or-none : (a b : ℕ) → bitOr a b ≡ 0 → (a ≡ 0) × (b ≡ 0)
 or-none a b e = (omega (arith, e, or-add-and a b, and-le-r a b), omega (arith, e, or-add-and a b, and-le-l a b))
 
 abbrev Inv-loop : tie.InvT-loop
-Inv-loop s at all₀ i₀ all i = (i ≤ 64) × (all ≡ 0 → (j : ℕ) → j < i → getD s (at + j) 0 ≡ 0)
+Inv-loop s at size all₀ i₀ all i = (i ≤ size) × (all ≡ 0 → IsZero s at i) × (IsZero s at i → all ≡ 0)
 
 abbrev μ-loop : tie.MeasureT-loop
-μ-loop s at all₀ i₀ all i = 64 - i
+μ-loop s at size all₀ i₀ all i = size - i
 
 loop-holds : tie.Need-loop-holds Inv-loop μ-loop
-loop-holds c = (omega arith, λ e. below-none _)
+loop-holds c = (omega arith, λ e. below-none _, λ z. refl)
 
 add-all : tie.Need-add-all Inv-loop μ-loop
 add-all c = omega (arith, c .loop-test .taken, c .before .before .pre, c .before .before .good .0 .0)
@@ -30,7 +31,7 @@ shared-slice-read-all : tie.Need-shared-slice-read-all Inv-loop μ-loop
 shared-slice-read-all c = omega (arith, c .before .loop-test .taken, c .before .before .before .pre)
 
 add-i : tie.Need-add-i Inv-loop μ-loop
-add-i c = omega (arith, c .before .loop-test .taken)
+add-i c = omega (arith, c .before .loop-test .taken, c .before .before .before .pre, c .before .before .before .good .0 .0)
 
 loop-less : tie.Need-loop-less Inv-loop μ-loop
 loop-less c = omega (arith, c .before .loop-test .taken)
@@ -38,13 +39,19 @@ loop-less c = omega (arith, c .before .loop-test .taken)
 loop-again : tie.Need-loop-again Inv-loop μ-loop
 loop-again c =
     let turn = c .before .before .loop in
-    let a = c .before .before .before .args in (
+    let a = c .before .before .before .args in
+    let byte = getD (a .s .now) (a .at + turn .i) 0 in (
       omega (arith, c .before .loop-test .taken),
-      λ e. let none = or-none (turn .all) (getD (a .s .now) (a .at + turn .i) 0) e in below-more _ _ (turn .inv .1 (none .0)) (none .1),
+      λ e. let none = or-none (turn .all) byte e in below-more _ _ (turn .inv .1 (none .0)) (none .1),
+      λ z. ap₂ bitOr (turn .inv .2 (λ j l. z j (omega (arith, l)))) (z (turn .i) (omega arith)),
     )
 
 returns : tie.Need-returns Inv-loop μ-loop
-returns c e i h = c .before .loop .inv .1 e i (omega (arith, h, c .loop-test .left))
+returns c =
+    let turn = c .before .loop in
+    let a = c .before .before .args in
+    let all : turn .i ≡ a .size = omega (arith, c .loop-test .left, turn .inv .0) in
+    (λ e i h. turn .inv .1 e i (omega (arith, h, all)), λ z. turn .inv .2 (λ i h. z i (omega (arith, h, all))))
 
 pub joined-spec : {M : Type 1} → statement M
 joined-spec = tie.close (tie.spec Inv-loop μ-loop loop-holds add-all shared-slice-read-all add-i loop-less loop-again returns)
