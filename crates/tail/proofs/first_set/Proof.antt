@@ -1,19 +1,17 @@
 -- `tail::first_set` meets its contract: every byte that was passed is 0, and the one at which the last passing ends is not, or is not there.
 -- Assumes nothing.
-use mathlib.Core.Path.{_≡_, refl, sym, ap, _∙_}
+use mathlib.Core.Path.{_≡_, sym, ap, _∙_}
 use mathlib.Core.Logic.{⊎-elim}
 use mathlib.Core.Bool.{false}
 use mathlib.Core.List.{List}
-use Prim.Native.Nat.{ℕ, _+_, _*_, _≤_, _<_}
+use Prim.Native.Nat.{ℕ, _*_, _≤_, _<_}
 use native.Mathlib.Nat.{add-zero}
 use native.Mathlib.Omega.{arith}
 use lib.ListN.{length, getD}
 use borrow.Author.Count.{below-none, below-more}
-use borrow.Author.Needs.{needs}
 use Rattle.bools.proofs.Bools.{below-or-not}
 use Rattle.bools.proofs.Lowest.{lowest-is, lowest-none}
 use Rattle.tail.specs.Tail.{hasOneFrom, firstOneFrom}
-use Rattle.tail.specs.Inner.{Passed}
 use Rattle.tail.proofs.Laws.{byte-before, byte-zero, set-one}
 use Rattle.tail.proofs.first_set.Statement.{statement}
 use Rattle.tail.proofs.first_set.Tie as tie

@@ -1,8 +1,8 @@
 -- `tail::joined` meets its contract. The loop's invariant: the bytes joined so far make 0 exactly where each of them is 0. The measure is the number of
 -- bytes left.
 -- Assumes nothing.
-use mathlib.Core.Path.{_≡_, refl, ap₂, _∙_}
-use Prim.Native.Nat.{ℕ, _+_, _-_, _≤_, _<_}
+use mathlib.Core.Path.{_≡_, refl, ap₂}
+use Prim.Native.Nat.{ℕ, _+_, _-_, _≤_}
 use native.Mathlib.Omega.{arith}
 use lib.Bits.{bitOr, or-add-and, and-le-l, and-le-r}
 use lib.ListN.{getD}

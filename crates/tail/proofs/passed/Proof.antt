@@ -6,7 +6,6 @@ use mathlib.Core.List.{List}
 use Prim.Native.Nat.{ℕ, _+_, _-_, _≤_, _<_}
 use native.Mathlib.Omega.{arith}
 use lib.ListN.{length, getD}
-use borrow.Author.Needs.{needs}
 use Rattle.bools.proofs.Bools.{below-or-not}
 use Rattle.tail.specs.Inner.{IsZero}
 use Rattle.tail.proofs.passed.Statement.{statement}
