@@ -12,8 +12,7 @@ use lib.ListN.{length, drop, set, length-append, length-drop}
 use lib.Pow.{pow-add, pow-mono, pow-pos, shr-shr, field, mod-mod-pow}
 use Rattle.packing.specs.Packing.{packed, toBytes, byteCount, fillBits, packedBytes}
 use Rattle.packing.proofs.Bytes.{length-toBytes}
-use Rattle.packing.proofs.Giving.{take-high, take-low, give-byte, give-last, last-small}
-use Rattle.tail.proofs.Writing.{write-next}
+use Rattle.packing.proofs.Giving.{take-high, take-low, give-byte, give-last, last-small, write-next}
 
 -- of n words, j are taken in: `at` bytes of them are written over the buffer's first list, and `left` bits wait
 pub record Filling (w n : ℕ) (f : ℕ → ℕ) (before now : List ℕ) (waiting left at j : ℕ) : Type 0 where

@@ -1,12 +1,14 @@
 -- Packing from the front with an accumulator: `left` bits of P wait, the bits before them stand as bytes. What taking a word
 -- and giving a byte do to the three.
 -- Assumes nothing.
-use Prim.Native.Nat.{ℕ, _+_, _-_, _*_, _/_, _%_, _^_, _<_}
+use Prim.Native.Nat.{ℕ, suc, _+_, _-_, _*_, _/_, _%_, _^_, _<_}
 use mathlib.Core.Path.{_≡_, sym, ap, ap₂, _∙_, subst}
-use mathlib.Core.List.{[], _∷_, _++_}
+use mathlib.Core.List.{List, [], _∷_, _++_, append-assoc}
 use native.Mathlib.Nat.{add-comm, add-zero, mod-lt, mul-mod-left, mul-div-mul-right}
 use native.Mathlib.Numerals.{add-one}
 use native.Mathlib.Omega.{arith}
+use lib.ListN.{length, drop, set, getD}
+use lib.Seq.{set-at, drop-cons}
 use lib.Pow.{pow-pos, pow-add, high, low, shl-lt, shl-shr, shr-shr, field, mod-pow-add}
 use Rattle.packing.specs.Packing.{toBytes}
 
@@ -55,3 +57,11 @@ last-small p left h =
   where
     e : left + (8 - left) ≡ 8
     e = omega arith
+
+-- a byte is stored behind those written over a list
+pub write-next : (t before : List ℕ) (at b : ℕ) → length t ≡ at → at < length before → set (t ++ drop at before) at b ≡ (t ++ (b ∷ [])) ++ drop (at + 1) before
+write-next t before at b e h =
+    ap (λ (l : List ℕ). set (t ++ l) at b) (drop-cons before at 0 h)
+    ∙ set-at t (getD before at 0) (drop (suc at) before) b at e
+    ∙ sym (append-assoc t (b ∷ []) (drop (suc at) before))
+    ∙ ap (λ (i : ℕ). (t ++ (b ∷ [])) ++ drop i before) (sym (add-one at))

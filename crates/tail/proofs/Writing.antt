@@ -1,13 +1,12 @@
--- Bytes that are written one behind the other over a list.
+-- Zeros that are written one behind the other over a list.
 -- Assumes nothing.
 use mathlib.Core.Path.{_≡_, sym, _∙_, ap}
 use mathlib.Core.List.{List, [], _∷_, _++_, append-assoc, append-nil}
 use Prim.Native.Nat.{ℕ, zero, suc, _+_, _-_, _≤_, _<_}
-use native.Mathlib.Numerals.{add-one}
 use native.Mathlib.Omega.{arith}
-use lib.ListN.{length, take, drop, set, getD, replicate-append-replicate, length-append, length-replicate, length-take, take-append-drop, drop-of-length-le}
-use lib.Seq.{set-at, drop-cons}
+use lib.ListN.{length, take, drop, set, replicate-append-replicate, length-append, length-replicate, length-take, take-append-drop, drop-of-length-le}
 use Rattle.packing.specs.Packing.{Bytes}
+use Rattle.packing.proofs.Giving.{write-next}
 use Rattle.tail.specs.Tail.{zeros}
 use Rattle.tail.specs.Inner.{clearedFrom}
 
@@ -19,14 +18,6 @@ pub bytes-zeros : (n : ℕ) → Bytes (zeros n)
 bytes-zeros zero i = omega arith
 bytes-zeros (suc n) zero = omega arith
 bytes-zeros (suc n) (suc i) = bytes-zeros n i
-
--- one byte more behind those written
-pub write-next : (t before : List ℕ) (at b : ℕ) → length t ≡ at → at < length before → set (t ++ drop at before) at b ≡ (t ++ (b ∷ [])) ++ drop (at + 1) before
-write-next t before at b e h =
-    ap (λ (l : List ℕ). set (t ++ l) at b) (drop-cons before at 0 h)
-    ∙ set-at t (getD before at 0) (drop (suc at) before) b at e
-    ∙ sym (append-assoc t (b ∷ []) (drop (suc at) before))
-    ∙ ap (λ (i : ℕ). (t ++ (b ∷ [])) ++ drop i before) (sym (add-one at))
 
 -- zeros are written from byte n on up to byte `at`
 abbrev pub clearedTo : ℕ → ℕ → List ℕ → List ℕ

@@ -1,4 +1,4 @@
--- What only inner promises cite: a byte list whose end is cleared, and blocks of it that are zero.
+-- What only inner promises cite: a byte list whose end is cleared, and zero bytes of it that are passed.
 -- Assumes nothing.
 use mathlib.Core.Path.{_≡_}
 use Prim.Native.Nat.{ℕ, _+_, _-_, _≤_, _<_}
@@ -10,13 +10,13 @@ use Rattle.tail.specs.Tail.{zeros}
 abbrev pub clearedFrom : ℕ → List ℕ → List ℕ
 clearedFrom n s = take n s ++ zeros (length s - n)
 
--- the n bytes from byte `at` on are zero
+-- the bytes from byte a up to byte b are zero
 abbrev pub IsZero : List ℕ → ℕ → ℕ → Type 0
-IsZero s at n = (i : ℕ) → i < n → getD s (at + i) 0 ≡ 0
+IsZero s a b = (i : ℕ) → a ≤ i → i < b → getD s i 0 ≡ 0
 
--- blocks of n bytes that are zero are passed from byte `from` on, up to byte r, where the next one is not zero or not there
+-- the bytes from byte `from` up to byte r are zero, and the n bytes from there on are not all zero, or not all there
 pub record Passed (s : List ℕ) (from n r : ℕ) : Type 0 where
   pub start : from ≤ r
   pub end : r ≤ length s
-  pub zero : (i : ℕ) → from ≤ i → i < r → getD s i 0 ≡ 0
-  pub next : r + n ≤ length s → IsZero s r n → ⊥
+  pub zero : IsZero s from r
+  pub next : r + n ≤ length s → IsZero s r (r + n) → ⊥

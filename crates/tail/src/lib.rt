@@ -16,11 +16,11 @@ pub fn clear(s: &mut [u8], from: usize)
     }
 }
 
-// The bytes of a block, one or-ed to the other: 0 exactly where each of them is 0. Where the size is a constant the compiler makes a few readings of
-// it, without a branch.
-fn joined(s: &[u8], at: usize, size: usize) -> u8
+// The `size` bytes from `at` on, one or-ed to the other: 0 exactly where each of them is 0. Where the size is a constant the compiler makes a few readings
+// of them, without a branch.
+fn any_set(s: &[u8], at: usize, size: usize) -> u8
     requires { ⌜ at + size ≤ length (now s) ⌝ }
-    ensures { λ r. ⌜ (r ≡ 0 → IsZero (now (s .entry)) at size) × (IsZero (now (s .entry)) at size → r ≡ 0) ⌝ }
+    ensures { λ r. ⌜ (r ≡ 0 → IsZero (now (s .entry)) at (at + size)) × (IsZero (now (s .entry)) at (at + size) → r ≡ 0) ⌝ }
 {
     let mut all: u8 = 0;
     let mut i: usize = 0;
@@ -38,7 +38,7 @@ fn passed(s: &[u8], from: usize, size: usize) -> usize
 {
     let mut at = from;
     while size <= s.len() - at {
-        if joined(s, at, size) != 0 {
+        if any_set(s, at, size) != 0 {
             return at;
         }
         at += size;
@@ -58,7 +58,8 @@ fn first_set(s: &[u8], from: usize) -> usize
     passed(s, small, 1)
 }
 
-// The lowest byte with a one at bit `bit` or later, and the number of bytes where there is none.
+// The lowest byte with a one at bit `bit` or later, and the number of bytes where there is none. A bit inside a byte leaves the lowest bits of that byte,
+// which is then looked at by itself.
 pub fn first_one(s: &[u8], bit: u64) -> usize
     ensures { λ r. ⌜ r ≡ firstOneFrom bit (now (s .entry)) ⌝ }
 {

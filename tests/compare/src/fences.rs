@@ -177,7 +177,7 @@ fn images(fenced: &Fenced, k: u32, side: Side, step: usize) -> Counted {
 fn tails(fenced: &Fenced, k: u32, side: Side, step: usize) -> Counted {
     let image = &table(k).image;
     let mut cases = 0;
-    for more in (0..=70).chain([127, 128, 129, 191, 192, 255, 256, 1000, ROOM - 13312]).step_by(step) {
+    for more in (0..=80).chain([127, 128, 129, 191, 192, 255, 256, 1000, ROOM - 13312]).step_by(step) {
         let length = image.len() + more;
         let full = rom(k, length);
         for byte in [0x00, 0xFF] {

@@ -1,5 +1,5 @@
 //! Tails, what stands in a buffer past the image: zeros written by the builder to the buffer's end, and read by the check; the other calls do
-//! not depend on them. Lengths of 0 to 70 bytes go over a block of 64 and a few bytes on each side of it; the buffers of images up to
+//! not depend on them. Lengths of 0 to 80 bytes go through a block of 64 bytes, one of 8 and single bytes, one after the other; the buffers of images up to
 //! precision 9 start at each of the 64 bytes of a line of the cache, those of the longer ones at eight of these, and what the builder writes at all.
 use crate::both::{told, Both};
 use crate::independent::{power, precisions, rom, table, Judged};
@@ -9,7 +9,7 @@ use crate::work::{share, Counted};
 
 /// The lengths of tails: each `step`-th.
 fn lengths(step: usize) -> impl Iterator<Item = usize> {
-    (0..=70).step_by(step)
+    (0..=80).step_by(step)
 }
 
 /// A precision, and how many bytes after a multiple of 64 a buffer starts: one start alone where the lengths are not all. The long images,

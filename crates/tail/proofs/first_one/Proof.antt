@@ -1,4 +1,5 @@
--- `tail::first_one` meets its contract: the byte that holds the first of the bits is looked at by itself, and those behind it by `first_set`.
+-- `tail::first_one` meets its contract: where the bits begin inside a byte, that byte is looked at by itself, and those behind it by `first_set`; else all
+-- of them by `first_set`.
 -- Assumes nothing.
 use mathlib.Core.Path.{_≡_, sym, ap, _∙_}
 use mathlib.Core.Logic.{⊎-elim}

@@ -1,22 +1,21 @@
 -- `tail::first_set` meets its contract: every byte that was passed is 0, and the one at which the last passing ends is not, or is not there.
 -- Assumes nothing.
-use mathlib.Core.Path.{_≡_, sym, ap, _∙_}
+use mathlib.Core.Path.{_≡_, sym, _∙_}
 use mathlib.Core.Logic.{⊎-elim}
 use mathlib.Core.Bool.{false}
 use mathlib.Core.List.{List}
 use Prim.Native.Nat.{ℕ, _*_, _≤_, _<_}
-use native.Mathlib.Nat.{add-zero}
 use native.Mathlib.Omega.{arith}
 use lib.ListN.{length, getD}
-use borrow.Author.Count.{below-none, below-more}
 use Rattle.bools.proofs.Bools.{below-or-not}
 use Rattle.bools.proofs.Lowest.{lowest-is, lowest-none}
 use Rattle.tail.specs.Tail.{hasOneFrom, firstOneFrom}
-use Rattle.tail.proofs.Laws.{byte-before, byte-zero, set-one}
+use Rattle.tail.specs.Inner.{IsZero}
+use Rattle.tail.proofs.Laws.{byte-before, byte-zero, set-one, zero-none, zero-then, zero-next}
 use Rattle.tail.proofs.first_set.Statement.{statement}
 use Rattle.tail.proofs.first_set.Tie as tie
 
-module _ (s : List ℕ) (from r : ℕ) (zero : (i : ℕ) → from ≤ i → i < r → getD s i 0 ≡ 0) where
+module _ (s : List ℕ) (from r : ℕ) (zero : IsZero s from r) where
   -- no byte up to there has a one behind the bits of the bytes before the first
   none-before : (i : ℕ) → i < r → hasOneFrom (8 * from) s i ≡ false
   none-before i h =
@@ -28,10 +27,6 @@ module _ (s : List ℕ) (from r : ℕ) (zero : (i : ℕ) → from ≤ i → i < 
       ⊎-elim (λ l. sym (lowest-is (hasOneFrom (8 * from) s) (length s) r l (set-one (8 * from) s r (omega (arith, start)) byte (set l)) none-before))
       (λ g. let all : r ≡ length s = omega (arith, end, g) in all ∙ sym (lowest-none (hasOneFrom (8 * from) s) (length s) (λ i h. none-before i (omega (arith, h, g)))))
       (below-or-not r (length s))
-
--- bytes that are passed one after the other
-then : (s : List ℕ) (from mid r : ℕ) → ((i : ℕ) → from ≤ i → i < mid → getD s i 0 ≡ 0) → ((i : ℕ) → mid ≤ i → i < r → getD s i 0 ≡ 0) → (i : ℕ) → from ≤ i → i < r → getD s i 0 ≡ 0
-then s from mid r z y i f h = ⊎-elim (λ l. z i f l) (λ g. y i g h) (below-or-not i mid)
 
 returns : tie.Need-returns
 returns c =
@@ -56,11 +51,11 @@ returns-2 c =
     let last = c .passed3 in
     let r = last .result in
     lowest-there s (a .from) r
-    (then s (a .from) (small .result) r (then s (a .from) (large .result) (small .result) (large .ensures .zero) (small .ensures .zero)) (last .ensures .zero))
+    (zero-then s (a .from) (small .result) r (zero-then s (a .from) (large .result) (small .result) (large .ensures .zero) (small .ensures .zero)) (last .ensures .zero))
     (omega (arith, large .ensures .start, small .ensures .start, last .ensures .start))
     (last .ensures .end)
     (omega (arith, c .before .before .before .before .shared-slice-known .given r))
-    (λ l e. last .ensures .next (omega (arith, l)) (below-more _ 0 (below-none _) (ap (λ (x : ℕ). getD s x 0) (add-zero r) ∙ e)))
+    (λ l e. last .ensures .next (omega (arith, l)) (zero-next s r r (zero-none s r r (omega arith)) e))
 
 pub first-set-spec : {M : Type 1} → statement M
 first-set-spec = tie.close (tie.spec returns passed-requires passed-requires-2 passed-requires-3 returns-2)
