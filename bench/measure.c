@@ -188,13 +188,16 @@ static int rom_calls;
             call;                           \
         return rom_calls;                   \
     }
-#define ROMS(name, prefix)                                                                       \
-    ROM_PASS(name##_builds_rom, sink = JOIN(prefix, build)(ROM_K, rom, rom_length).number)       \
+#define ROMS(name, prefix)                                                                 \
+    ROM_PASS(name##_builds_rom, sink = JOIN(prefix, build)(ROM_K, rom, rom_length).number) \
+    ROM_PASS(name##_checks_rom, sink = JOIN(prefix, check)(ROM_K, rom, rom_length).number)
+#define IMAGES(name, prefix)                                                                     \
     ROM_PASS(name##_builds_image, sink = JOIN(prefix, build)(ROM_K, rom, lengths[ROM_K]).number) \
-    ROM_PASS(name##_checks_rom, sink = JOIN(prefix, check)(ROM_K, rom, rom_length).number)       \
     ROM_PASS(name##_checks_image, sink = JOIN(prefix, check)(ROM_K, rom, lengths[ROM_K]).number)
 ROMS(library, yildegga)
+IMAGES(library, yildegga)
 ROMS(careful_2, careful_O2)
+IMAGES(careful_2, careful_O2)
 ROMS(careful_3, careful_O3)
 ROM_PASS(zeros, tail_zeros(rom, lengths[ROM_K], rom_length))
 ROM_PASS(reads, sink = tail_read(rom, lengths[ROM_K], rom_length))

@@ -5,15 +5,15 @@ use mathlib.Core.Logic.{⊎-elim}
 use mathlib.Core.Bool.{Bool, true, false}
 use mathlib.Core.List.{List, _++_}
 use Prim.Native.Nat.{ℕ, zero, suc, _+_, _-_, _*_, _/_, _%_, _^_, _≤_, _<_}
-use native.Mathlib.Nat.{mul-assoc, mul-add-mod-self-right, zero-add, zero-mod}
+use native.Mathlib.Nat.{zero-mod}
 use native.Mathlib.Omega.{arith}
 use lib.ListN.{length, take, drop, getD, getD-replicate, length-append, length-drop, take-append-drop}
-use lib.Pow.{pow-add}
 use lib.Seq.{take-at, getD-append-add, getD-drop, ext-getD}
 use Rattle.bools.proofs.Bools.{clash, below-or-not}
 use Rattle.bools.specs.Lowest.{lowest}
 use Rattle.bools.proofs.Lowest.{lowest-passes, lowest-before, lowest-none}
 use Rattle.packing.specs.Packing.{Bytes, fillBits, bytesValue, bitAt}
+use Rattle.packing.proofs.Bytes.{value-low}
 use Rattle.packing.proofs.Bits.{bit-of-filling}
 use Rattle.packing.proofs.Image.{words-front-filled}
 use Rattle.tail.specs.Tail.{hasOneFrom, zeros}
@@ -50,15 +50,6 @@ rom-zero t n i h l =
     there : i ≡ length (imageOf t) + (i - lengthOf t)
     there = omega (arith, image-length t, h)
 
--- bytes above do not reach the lowest f bits of the last one
-low-of : (a x f : ℕ) → f ≤ 8 → (a * 2 ^ 8 + x) % 2 ^ f ≡ x % 2 ^ f
-low-of a x f h =
-    ap (λ (y : ℕ). (y + x) % 2 ^ f) (ap (λ (e : ℕ). a * 2 ^ e) all ∙ ap (λ (y : ℕ). a * y) (pow-add 2 (8 - f) f) ∙ sym (mul-assoc a (2 ^ (8 - f)) (2 ^ f)))
-    ∙ mul-add-mod-self-right (a * 2 ^ (8 - f)) (2 ^ f) x
-  where
-    all : 8 ≡ 8 - f + f
-    all = omega (arith, h)
-
 module _ (t : Layout) (fits : Fits t) where
   -- its words are the table's
   pub rom-word : (n j : ℕ) → j < t .count → wordIn t (romOf t n) j ≡ t .word j
@@ -79,8 +70,8 @@ module _ (t : Layout) (fits : Fits t) where
         filled : (L : ℕ) → L ≡ lengthOf t → bytesValue s 0 L % 2 ^ fillBits (t .width) (t .count) ≡ 0
         filled zero e = zero-mod (2 ^ fillBits (t .width) (t .count))
         filled (suc m) e =
-            low-of (bytesValue s 0 m) (getD s (0 + m) 0) (fillBits (t .width) (t .count)) (omega arith)
-            ∙ ap₂ (λ (x y : ℕ). getD s x 0 % 2 ^ y) (zero-add m) same
+            value-low s m (fillBits (t .width) (t .count)) (omega arith)
+            ∙ ap (λ (x : ℕ). getD s m 0 % 2 ^ x) same
             ∙ none-bits (endOf t) s m (none m (omega (arith, e, long)))
           where
             same : fillBits (t .width) (t .count) ≡ 8 - (endOf t - 8 * m)

@@ -3,7 +3,7 @@
 use Prim.Native.Nat.{ℕ, zero, suc, _+_, _-_, _*_, _/_, _%_, _^_, _≤_, _<_}
 use mathlib.Core.Path.{_≡_, refl, sym, ap, ap₂, _∙_, subst}
 use mathlib.Core.List.{List, [], _∷_, _++_, append-assoc}
-use native.Mathlib.Nat.{add-zero, le-trans, le-suc, zero-add, mul-comm, mul-suc, mod-eq-of-lt, mod-one}
+use native.Mathlib.Nat.{add-zero, le-trans, le-suc, zero-add, mul-comm, mul-assoc, mul-suc, mul-add-mod-self-right, mod-eq-of-lt, mod-one}
 use native.Mathlib.Numerals.{add-one}
 use native.Mathlib.Omega.{arith}
 use lib.ListN.{getD, length, take, length-append}
@@ -93,6 +93,17 @@ value-step-lt v b a e h hv hb =
   where
     more : 8 * (e - a) + 8 ≡ 8 * (e + 1 - a)
     more = omega arith
+
+-- the lowest bits of the number are those of the last byte
+pub value-low : (s : List ℕ) (n f : ℕ) → f ≤ 8 → bytesValue s 0 (suc n) % 2 ^ f ≡ getD s n 0 % 2 ^ f
+value-low s n f h =
+    ap (λ (x : ℕ). (x + getD s (0 + n) 0) % 2 ^ f)
+    (ap (λ (x : ℕ). bytesValue s 0 n * x) (ap (λ (e : ℕ). 2 ^ e) all ∙ pow-add 2 (8 - f) f) ∙ sym (mul-assoc (bytesValue s 0 n) (2 ^ (8 - f)) (2 ^ f)))
+    ∙ mul-add-mod-self-right (bytesValue s 0 n * 2 ^ (8 - f)) (2 ^ f) (getD s (0 + n) 0)
+    ∙ ap (λ (i : ℕ). getD s i 0 % 2 ^ f) (zero-add n)
+  where
+    all : 8 ≡ 8 - f + f
+    all = omega (arith, h)
 
 -- eight bytes at once
 spread : (a b c d e f g h : ℕ)
