@@ -1,86 +1,65 @@
 // Building the image of a precision in a lent buffer, with zeros to its end.
 ghost use mathlib.Core.Path.{_≡_};
-ghost use Prim.Native.Nat.{_+_, _*_, _/_, _%_, _^_, _≤_, _<_};
-ghost use mathlib.Core.List.{_++_};
-ghost use lib.ListN.{length, set, drop};
+ghost use mathlib.Core.Bool.{not};
+ghost use Prim.Native.Nat.{_+_, _-_, _*_};
+ghost use lib.Dec.{T};
+ghost use lib.Ieee.{isNan};
+ghost use lib.Ieee.Positive.{positive};
+ghost use lib.ListN.{length};
 ghost use Rattle.answers.specs.Answer.{done};
-ghost use Rattle.layout.specs.Layout.{lengthOf, imageOf};
+ghost use Rattle.packing.specs.Writing.{takenIn, putBytes, writerBefore, bytesBefore};
+ghost use Rattle.quotient.specs.Quotient.{roundedUp};
 ghost use Rattle.image.specs.Calls.{buildOutcome, buildLeaves};
-ghost use Rattle.image.specs.Inner.{layoutOf};
+ghost use Rattle.building.specs.Inner.{quotients, IsTable, HasRoom};
 use answers::Done;
 use nodes::Quotients;
+use packing::Writer;
 use precision::Precision;
 
-// x without its lowest `count` bits, as `bits::high`, for counts below 64 alone.
-fn above(x: u64, count: u32) -> u64
-    requires { ⌜ count < 64 ⌝ }
-    ensures { λ r. ⌜ r ≡ x / 2 ^ count ⌝ }
+// A guess at dividend / divisor rounded up, for a quotient below 2^32. The first sum is less than a half above the quotient, so that the nearest whole
+// number to it is the quotient rounded up; the second has one bit for each whole number, and so rounds to it. Nothing is promised: each guess is judged.
+fn guess(dividend: f64, divisor: f64) -> u32
+    requires { ⌜ T (positive dividend) × T (not (isNan divisor)) ⌝ }
 {
-    x >> count
+    let nearly = dividend / divisor + 0.49999904632568359375;
+    (f64::to_bits(nearly + 4503599627370496.0) % 4294967296) as u32
 }
 
-// The lowest `count` bits of x, as `bits::low`, for counts below 64 alone.
-fn below(x: u64, count: u32) -> u64
-    requires { ⌜ count < 64 ⌝ }
-    ensures { λ r. ⌜ r ≡ x % 2 ^ count ⌝ }
+// Puts word j of a table, which is that of the divisor i = first + j. The bit place is j × width before it and (j + 1) × width behind it.
+fn put_word(image: &mut [u8], w: Writer, table: Quotients, i: u32, guess: u32) -> Writer
+    requires { ⌜ HasRoom table i (length (now image)) ⌝ }
+    requires { ⌜ w .place ≡ (i - table .first) * table .width ⌝ }
+    ensures { λ r. ⌜ r ≡ takenIn (table .width) (roundedUp (table .numerator) i) w ⌝ }
+    ensures { λ r. ⌜ now (image .exit) ≡ putBytes (table .width) (roundedUp (table .numerator) i) w (now (image .entry)) ⌝ }
+    ensures { λ r. ⌜ r .place ≡ (i + 1 - table .first) * table .width ⌝ }
 {
-    x % (1 << count)
+    packing::put(
+        image,
+        w,
+        table.width,
+        quotient::settled(table.numerator, i, guess),
+    )
 }
 
-// Takes `word` in behind the bits that wait.
-fn joined(waiting: u64, width: u32, word: u64) -> u64
-    requires { ⌜ (width < 64) × (waiting * 2 ^ width + word < 2 ^ 64) ⌝ }
-    ensures { λ r. ⌜ r ≡ waiting * 2 ^ width + word ⌝ }
+// Puts the words of a table, from bit place 0 on: numerator / i rounded up, its lowest bits, for each i from `first` on. The divisor runs beside i as a
+// double, for the guesses. The bit place is count × width at the end, and what waits then is left to `finish`.
+fn fill(image: &mut [u8], table: Quotients) -> Writer
+    requires { ⌜ IsTable table (length (now image)) ⌝ }
+    ensures { λ r. ⌜ r ≡ writerBefore (table .width) (quotients table) (table .count) ⌝ }
+    ensures { λ r. ⌜ now (image .exit) ≡ bytesBefore (table .width) (quotients table) (now (image .entry)) (table .count) ⌝ }
+    ensures { λ r. ⌜ r .place ≡ table .count * table .width ⌝ }
 {
-    (waiting << width) + word
-}
-
-// Writes the lowest 32 bits of `four` as four bytes from `at` on, the highest first. The stores stand in a row, so that they become one.
-fn put_four(image: &mut [u8], at: usize, four: u64)
-    requires { ⌜ at + 4 ≤ length (now image) ⌝ }
-    ensures { λ r. ⌜ now (image .exit) ≡ set (set (set (set (now (image .entry)) at (four / 16777216 % 256)) (at + 1) (four / 65536 % 256)) (at + 2) (four / 256 % 256)) (at + 3) (four % 256) ⌝ }
-{
-    image[at] = (four / 16777216 % 256) as u8;
-    image[at + 1] = (four / 65536 % 256) as u8;
-    image[at + 2] = (four / 256 % 256) as u8;
-    image[at + 3] = (four % 256) as u8;
-}
-
-// Writes the words of a table at the front of the buffer: numerator / (first + j) rounded up, its lowest bits, for each j. Bytes past them stay.
-// The bits that wait for their bytes are kept beside the buffer, which is not read; those above them, which are written, are dropped when
-// the next word comes. Four bytes are written at once as soon as there are as many, and the last ones one by one.
-fn fill(image: &mut [u8], table: Quotients)
-    requires { ⌜ (1 ≤ table .width) × (table .width ≤ 32) × (table .first + table .count < 2 ^ 32) × (lengthOf (layoutOf table) ≤ length (now image)) ⌝ }
-    ensures { λ r. ⌜ now (image .exit) ≡ imageOf (layoutOf table) ++ drop (lengthOf (layoutOf table)) (now (image .entry)) ⌝ }
-{
-    let width = table.width;
-    let count = table.count;
-    let numerator = table.numerator;
-    let first = table.first;
-    let mut waiting: u64 = 0;
-    let mut left: u32 = 0;
-    let mut at: usize = 0;
-    let mut j: u32 = 0;
-    while j < count {
-        let word = below(quotient::rounded_up(numerator, first + j), width);
-        waiting = joined(below(waiting, left), width, word);
-        left += width;
-        j += 1;
-        if left < 32 {
-            continue;
-        }
-        left -= 32;
-        put_four(image, at, above(waiting, left));
-        at += 4;
+    let past = table.first + table.count;
+    let dividend = table.numerator as f64;
+    let mut divisor = table.first as f64;
+    let mut w = packing::start();
+    let mut i = table.first;
+    while i < past {
+        w = put_word(image, w, table, i, guess(dividend, divisor));
+        divisor = divisor + 1.0;
+        i += 1;
     }
-    while 8 <= left {
-        left -= 8;
-        image[at] = (above(waiting, left) % 256) as u8;
-        at += 1;
-    }
-    if left != 0 {
-        image[at] = (joined(below(waiting, left), 8 - left, 0) % 256) as u8;
-    }
+    w
 }
 
 // Writes the image of precision k at the front of the buffer, and zeros behind it to the end; on a refusal every byte stays as found.
@@ -96,12 +75,9 @@ pub fn build(k: Precision, image: &mut [u8]) -> Done
             value: 0,
         };
     }
-    let table = nodes::table(k);
-    fill(image, table);
-    tail::clear(
-        image,
-        packing::byte_count(table.width, table.count) as usize,
-    );
+    let w = fill(image, nodes::table(k));
+    let past = packing::finish(image, w);
+    tail::clear(image, past as usize);
     Done {
         number: 0,
         place: 0,

@@ -1,6 +1,7 @@
 pub mod Bits
 pub mod Bytes
 pub mod Giving
+pub mod Written
 pub mod Image
 pub mod Numbers
 pub mod Reading

@@ -1,4 +1,11 @@
-// Words of any width packed into bytes: how many they take, and any bits of them read back, eight bytes at a time.
+// Words of any width packed into bytes: how many they take, any bits of them read back, eight bytes at a time, and, in `writing`, words written.
+mod writing;
+
+pub use writing::WIDEST_PUT;
+pub use writing::Writer;
+pub use writing::finish;
+pub use writing::put;
+pub use writing::start;
 ghost use mathlib.Core.Path.{_≡_};
 ghost use Prim.Native.Nat.{_+_, _-_, _≤_, _<_};
 ghost use lib.ListN.{length, getD};

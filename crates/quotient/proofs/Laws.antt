@@ -1,7 +1,7 @@
 -- The laws of a quotient rounded up: the least whole number whose product with the divisor reaches the numerator.
 -- Assumes nothing.
 use mathlib.Core.Path.{_≡_, sym}
-use mathlib.Core.Bool.{_&&_, and-eq-true-iff}
+use mathlib.Core.Bool.{true, _&&_, and-eq-true-iff}
 use Prim.Native.Nat.{ℕ, suc, _+_, _-_, _*_, _/_, _%_, _^_, _≤_, _<_}
 use native.Mathlib.Nat.{div-zero, div-mul-le-self, lt-div-mul-add, div-lt-iff-lt-mul, div-eq-of-lt-le, mul-le-mul-left}
 use native.Mathlib.Omega.{arith}
@@ -56,6 +56,14 @@ module _ (M i : ℕ) (pos : 0 < i) where
       same _ _
       (λ t. let both = and-eq-true-iff _ _ .0 t in eq-eqb _ _ (unique c (leb-true _ _ (both .0)) (ltb-true _ _ (both .1))))
       (λ t. rw (eqb-true c (roundedUp M i) t) (rw (le-leb _ _ reaches, lt-ltb _ _ passes-less)))
+
+-- a number that passes the test is the quotient rounded up, and the divisor is not 0
+pub passed : (M i c : ℕ) → roundsUp M i c ≡ true → c ≡ roundedUp M i
+passed M i c t =
+    let both = and-eq-true-iff (leb M (c * i)) (ltb (c * i) (M + i)) .0 t in
+    let low = leb-true M (c * i) (both .0) in
+    let high = ltb-true (c * i) (M + i) (both .1) in
+    unique M i (omega (arith, low, high)) c low high
 
 -- an exact quotient is itself
 pub exact : (q i : ℕ) → 0 < i → roundedUp (q * i) i ≡ q

@@ -25,3 +25,14 @@ pub fn rounds_up(numerator: u64, divisor: u32, value: u32) -> bool
     let product = (value as u64) * (divisor as u64);
     std::num::wrapping_sub_u64(product, numerator % 9223372036854775808) < divisor as u64
 }
+
+// The quotient rounded up by way of a guess: where the product shows that the guess is right, it is given, and else a division is made. Whatever is
+// guessed, the answer is the same. Of the numerator the lowest 63 bits count, as above.
+pub fn settled(numerator: u64, divisor: u32, guess: u32) -> u64
+    ensures { λ r. ⌜ r ≡ roundedUp (numeratorBits numerator) divisor ⌝ }
+{
+    if rounds_up(numerator, divisor, guess) {
+        return guess as u64;
+    }
+    rounded_up(numerator % 9223372036854775808, divisor)
+}

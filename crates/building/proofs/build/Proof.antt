@@ -4,13 +4,16 @@
 use mathlib.Core.Path.{_≡_, sym, _∙_, ap, ap₂}
 use mathlib.Core.Bool.{cond}
 use mathlib.Core.List.{List, [], _++_}
-use Prim.Native.Nat.{ℕ}
+use Prim.Native.Nat.{ℕ, _*_, _+_, _^_, _≤_, _<_}
+use native.Mathlib.Nat.{mul-le-mul}
 use native.Mathlib.Omega.{arith}
 use lib.ListN.{length, drop}
-use lib.Pow.{pow-mono}
+use lib.Pow.{pow-mono, pow-pos}
 use lib.Dec.{eqb}
 use borrow.Author.Needs.{needs}
 use borrow.Author.Tests.{ne-eqb}
+use Rattle.packing.specs.Writing.{bytesTaken, finishLeaves, writerBefore, bytesBefore}
+use Rattle.packing.proofs.Written.{words-finished}
 use Rattle.answers.specs.Refusal.{Outcome}
 use Rattle.answers.specs.Answer.{done}
 use Rattle.nodes.specs.Inner.{quotientsOf}
@@ -21,6 +24,7 @@ use Rattle.layout.proofs.Rom.{rom-written}
 use Rattle.image.specs.Image.{plain}
 use Rattle.image.specs.Inner.{refusalNumber, layoutOf}
 use Rattle.image.proofs.Limits.{ImageKept, limit-refuses, limit-passes, limit-kept}
+use Rattle.building.specs.Inner.{quotients, IsTable}
 use Rattle.building.proofs.build.Statement.{statement}
 use Rattle.building.proofs.build.Tie as tie
 
@@ -47,20 +51,42 @@ limit c = sym (c .before .refusal-number .ensures) ∙ c .if1 .left
 kept : (c : tie.Else1) → ImageKept (c .before .before .before .args .k .0) (c .before .before .before .args .image .now)
 kept c = limit-kept (c .before .before .before .args .k .0) (c .before .before .before .args .image .now) (limit c)
 
--- so the table is that of k
-table : (c : tie.After-table) → c .table .result ≡ quotientsOf (c .before .before .before .before .args .k .0)
-table c = c .table .ensures ∙ kept (c .before) .numbers
+-- so the table is that of k, and its words can be put
+table : (c : tie.After-table) → c .table .result ≡ quotientsOf (c .before .before .before .before .before .args .k .0)
+table c = c .table .ensures ∙ kept (c .before .before) .numbers
+
+is-table : (k : ℕ) (s : List ℕ) → ImageKept k s → IsTable (quotientsOf k) (length s)
+is-table k s ok =
+    record {
+      wide = omega (arith, ok .high);
+      few = omega (arith, pow-mono (ok .high));
+      above = pow-pos (3 * k + 3);
+      exact = pow-mono high;
+      room = ok .long;
+    }
+  where
+    high : 3 * k + 3 ≤ 53
+    high = omega (arith, ok .high)
+
+-- the words as they stand behind the last put
+finished : (t : Quotients) (s : List ℕ) → IsTable t (length s)
+    → finishLeaves (bytesBefore (t .width) (quotients t) s (t .count)) (writerBefore (t .width) (quotients t) (t .count))
+    ≡ imageOf (layoutOf t) ++ drop (lengthOf (layoutOf t)) s
+finished t s ok = words-finished (t .width) (quotients t) s (t .count) (ok .wide) (omega (arith, mul-le-mul few (ok .wide))) (ok .room)
+  where
+    few : t .count ≤ 4294967296
+    few = omega (arith, ok .few)
 
 table-requires : tie.Need-table-requires
 table-requires c κs = search needs
 
 fill-requires : tie.Need-fill-requires
 fill-requires c κs =
-    let ok = kept (c .before .before) in
-    rw (table (c .before)) (omega arith, omega (arith, ok .high), omega (arith, pow-mono (ok .high)), ok .long)
+    let start = c .before .before .before .before .before in
+    rw (table c) (is-table (start .args .k .0) (start .args .image .now) (kept (c .before .before)))
 
-byte-count-requires : tie.Need-byte-count-requires
-byte-count-requires c κs = search needs
+finish-requires : tie.Need-finish-requires
+finish-requires c κs = search needs
 
 clear-requires : tie.Need-clear-requires
 clear-requires c κs = search needs
@@ -71,15 +97,18 @@ same-length c = search needs
 returns-2 : tie.Need-returns-2
 returns-2 c =
     let cleared = c .before .before in
-    let counted = cleared .before in
-    let filled = counted .before .before .before .before in
-    let tabled = filled .before .before in
-    let at = tabled .before in
+    let finish = cleared .before .before .before .before in
+    let fill = finish .before .before .before .before in
+    let tabled = fill .before in
+    let at = tabled .before .before in
     let k = at .before .before .before .args .k .0 in
-    let s = at .before .before .before .args .image .now in (
+    let s = at .before .before .before .args .image .now in
+    let t = tabled .table .result in
+    let past : finish .finish .result ≡ lengthOf (layoutOf t) = finish .finish .ensures .0 ∙ ap bytesTaken (fill .fill .ensures .1 .1) in
+    let words = finish .finish .ensures .1 ∙ ap₂ finishLeaves (fill .fill .ensures .1 .0) (fill .fill .ensures .0) in (
       ap done (sym (limit-passes k s [] 0 (limit at))),
       cleared .clear .ensures
-          ∙ ap₂ clearedFrom (counted .byte-count .ensures) (filled .fill .ensures)
+          ∙ ap₂ clearedFrom past (words ∙ finished t s (rw (table tabled) (is-table k s (kept at))))
           ∙ ap (λ (t : Quotients). clearedFrom (lengthOf (layoutOf t)) (imageOf (layoutOf t) ++ drop (lengthOf (layoutOf t)) s)) (table tabled)
           ∙ rom-written (plain k) s (kept at .long)
           ∙ sym (ap (leaves k s) (limit-passes k s [] 0 (limit at))),
@@ -93,7 +122,7 @@ build-spec =
     returns
     table-requires
     fill-requires
-    byte-count-requires
+    finish-requires
     clear-requires
     same-length
     returns-2)

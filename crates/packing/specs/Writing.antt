@@ -1,0 +1,71 @@
+-- Words written into a list of bytes one behind the other, most significant bit first, by a writer that keeps the bit place of the next word (document 02, Q-4).
+-- Assumes nothing.
+use Prim.Native.Nat.{ℕ, zero, suc, _+_, _-_, _*_, _/_, _%_, _^_}
+use mathlib.Core.Bool.{Bool, cond, not, _&&_, _||_}
+use mathlib.Core.List.{List, _++_}
+use lib.Dec.{leb}
+use lib.ListN.{length, take, drop}
+use Rattle.packing.specs.Packing.{toBytes}
+use Rattle.packing.specs.declared.writing.Writer.{Writer}
+
+-- the most bits that are put at once
+abbrev pub widestPut : ℕ
+widestPut = 32
+
+-- nothing is taken in
+abbrev pub started : Writer
+started = record { waiting = 0; place = 0 }
+
+-- the lowest n bytes of v stored in s from byte a on
+abbrev pub stored : List ℕ → ℕ → ℕ → ℕ → List ℕ
+stored s a n v = take a s ++ (toBytes n v ++ drop (a + n) s)
+
+-- where the bits that wait will stand when p are taken in: behind the eight bytes of each 64 bits before them
+abbrev pub waitFrom : ℕ → ℕ
+waitFrom p = p / 64 * 8
+
+-- whether the p % 64 bits that wait and w bits more are the 64 of eight bytes
+abbrev pub completes : ℕ → ℕ → Bool
+completes p w = leb 64 (p % 64 + w)
+
+-- the bits that wait with the word v of w bits behind them
+abbrev pub joined : ℕ → ℕ → Writer → ℕ
+joined w v r = r .waiting * 2 ^ w + v % 2 ^ w
+
+-- the writer when the word is taken in: its place grows by w
+abbrev pub takenIn : ℕ → ℕ → Writer → Writer
+takenIn w v r = record { waiting = cond (completes (r .place) w) (v % 2 ^ w) (joined w v r % 2 ^ 64); place = (r .place + w) % 2 ^ 64 }
+
+-- and the bytes: where 64 bits are complete they are stored, and those behind them wait
+abbrev pub putBytes : ℕ → ℕ → Writer → List ℕ → List ℕ
+putBytes w v r s = cond (completes (r .place) w) (stored s (waitFrom (r .place)) 8 (joined w v r / 2 ^ (r .place % 64 + w - 64))) s
+
+-- whether a word of w bits can be put into n bytes: it is not too wide, and what is to be stored has room
+abbrev pub canPut : ℕ → Writer → ℕ → Bool
+canPut n r w = leb w widestPut && (not (completes (r .place) w) || leb (waitFrom (r .place) + 8) n)
+
+-- the writer and the bytes behind a put, on all inputs
+abbrev pub putWriter : List ℕ → Writer → ℕ → ℕ → Writer
+putWriter s r w v = cond (canPut (length s) r w) (takenIn w v r) r
+
+abbrev pub putLeaves : List ℕ → Writer → ℕ → ℕ → List ℕ
+putLeaves s r w v = cond (canPut (length s) r w) (putBytes w v r s) s
+
+-- the bytes that p bits take
+abbrev pub bytesTaken : ℕ → ℕ
+bytesTaken p = (p + 7) / 8
+
+-- the bytes at the end: those of the bits that wait, with zero bits to the byte's end, where all have room
+abbrev pub finishLeaves : List ℕ → Writer → List ℕ
+finishLeaves s r =
+    let n = bytesTaken (r .place % 64) in
+    cond (leb (bytesTaken (r .place)) (length s)) (stored s (waitFrom (r .place)) n (r .waiting * 2 ^ (8 * n - r .place % 64))) s
+
+-- words f 0, f 1, .. of w bits, put one by one: the writer before word j, and what is left by then of the bytes s
+abbrev pub writerBefore : ℕ → (ℕ → ℕ) → ℕ → Writer
+writerBefore w f zero = started
+writerBefore w f (suc j) = takenIn w (f j) (writerBefore w f j)
+
+abbrev pub bytesBefore : ℕ → (ℕ → ℕ) → List ℕ → ℕ → List ℕ
+bytesBefore w f s zero = s
+bytesBefore w f s (suc j) = putBytes w (f j) (writerBefore w f j) (bytesBefore w f s j)
