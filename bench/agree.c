@@ -8,6 +8,7 @@
 #include <stdio.h>
 #include <stdlib.h>
 #include <string.h>
+#include <xmmintrin.h>
 
 static long cases;
 
@@ -79,6 +80,17 @@ static void build(answer (*builder)(uint32_t, uint8_t *, size_t), uint32_t k, co
     }
 }
 
+// The builders that guess by doubles and judge, in each rounding mode, since by default no guess is wrong. The default comes last, and stays.
+static void build_in_modes(uint32_t k)
+{
+    static const unsigned modes[] = {_MM_ROUND_UP, _MM_ROUND_DOWN, _MM_ROUND_TOWARD_ZERO, _MM_ROUND_NEAREST};
+    for (size_t m = 0; m < sizeof modes / sizeof modes[0]; m++) {
+        _MM_SET_ROUNDING_MODE(modes[m]);
+        build(yildegga_build, k, "yildegga_build");
+        build(judged_build, k, "judged_build");
+    }
+}
+
 // The check on tails: of zeros, with one byte changed, with another one too, and with a wrong word as well; and the tail read alone.
 static void tails(uint32_t k)
 {
@@ -128,7 +140,7 @@ int main(void)
     for (uint32_t k = LEAST; k <= GREATEST; k++) {
         const uint8_t *image = images[k];
         size_t length = lengths[k];
-        build(yildegga_build, k, "yildegga_build");
+        build_in_modes(k);
         build(careful_O2_build, k, "careful_O2_build");
         build(careful_O3_build, k, "careful_O3_build");
         build(bytewise_O2_build, k, "bytewise_O2_build");

@@ -10,6 +10,7 @@ static inline answer refused(uint32_t number)
     return (answer){number, 0, 0};
 }
 
+// A division of whole numbers for each node: a fixed measure. The library guesses by doubles, as `judged_build` in otherwise.c does.
 answer CALL(build)(uint32_t k, uint8_t *image, size_t length)
 {
     if (11 < k - 1)

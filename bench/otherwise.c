@@ -42,6 +42,53 @@ answer doubles_build(uint32_t k, uint8_t *image, size_t length)
     return (answer){0, 0, 0};
 }
 
+// Bits that wait for their eight bytes: place % 64 of them, the lowest of `waiting`, where place is the bits that the image has so far.
+typedef struct {
+    uint64_t waiting, place;
+} placed;
+
+static inline placed put_placed(uint8_t *image, placed to, uint32_t width, uint64_t word)
+{
+    uint64_t place = to.place + width, over = place % 64;
+    if (width <= over)
+        return (placed){to.waiting << width | word, place};
+    uint64_t eight = __builtin_bswap64(to.waiting << (width - over) | word >> over);
+    memcpy(image + to.place / 64 * 8, &eight, 8);
+    return (placed){word, place};
+}
+
+// The quotient and half less 2^-20, rounded to a whole number: with 2^52 added no place is left for a fraction, and the lowest bits are the number.
+// A quotient lies 2^-13 or more above a whole number unless it is one, so rounding to the nearest, the default, gives it rounded up.
+static inline uint64_t guessed(double dividend, double divisor)
+{
+    double whole = dividend / divisor + 0.49999904632568359375 + 4503599627370496.0;
+    uint64_t bits;
+    memcpy(&bits, &whole, 8);
+    return (uint32_t)bits;
+}
+
+// A guess counts only where it is right, so that the image is the same in every rounding mode; where it is wrong, whole numbers are divided.
+answer judged_build(uint32_t k, uint8_t *image, size_t length)
+{
+    if (11 < k - 1)
+        return (answer){1, 0, 0};
+    uint32_t width = 2 * k + 2;
+    uint64_t count = (uint64_t)1 << k, numerator = (uint64_t)1 << (3 * k + 3), mask = ((uint64_t)1 << width) - 1;
+    if (length < width * count / 8)
+        return (answer){2, 0, 0};
+    double dividend = (double)(int64_t)numerator, divisor = (double)(int64_t)count;
+    placed to = {0, 0};
+    for (uint64_t i = count; i < 2 * count; i++, divisor += 1.0) {
+        uint64_t c = guessed(dividend, divisor);
+        if (!right(c, i, numerator))
+            c = (numerator - 1) / i + 1;
+        to = put_placed(image, to, width, c & mask);
+    }
+    writer rest = {to.waiting, (uint32_t)(to.place % 64), image + to.place / 64 * 8};
+    put_rest(&rest, image + length);
+    return (answer){0, 0, 0};
+}
+
 kept_table kept_bind(uint32_t k, const uint8_t *image, size_t length)
 {
     if (11 < k - 1)

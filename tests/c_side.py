@@ -76,10 +76,10 @@ NUMBERS = {"build": {0, 1, 2}, "check": {0, 1, 2, 6, 7}, "node": {0, 1, 2, 3, 6}
 
 
 @functools.cache
-def built(name):
+def built(name, *libraries):
     """The program tests/c/NAME.c."""
     program = room() / name
-    well("gcc", "-g", "-O1", "-std=c99", *C_WARNINGS, INCLUDE, "-o", program, HERE / f"{name}.c", archive())
+    well("gcc", "-g", "-O1", "-std=c99", *C_WARNINGS, INCLUDE, "-o", program, HERE / f"{name}.c", archive(), *libraries)
     return program
 
 
@@ -207,6 +207,15 @@ def past_image():
     return None if found == f"{calls} of {calls}\n" else f"as they should were {found}"
 
 
+def rounding_modes():
+    """In each of the four rounding modes, full ROMs of every precision with and without a tail are the reference's, and the other calls
+    answer as by default. The mode stays, and no flag is raised, but inexact by the builder."""
+    calls = 4 * sum(22 + 4 * 2 ** k for k in range(1, 13))
+    images = b"".join(reference.image(k) for k in range(1, 13))
+    found = well(built("rounding", "-lm"), stdin=None, input=images)
+    return None if found == f"{calls} calls\n" else f"{calls} calls are to be made, and it says {found!r}"
+
+
 def asked_for():
     """The archive asks a program for `memset` and for nothing else."""
     found = set(re.findall(r"^ +U (\w+)$", well("nm", "--undefined-only", archive()), re.M))
@@ -283,6 +292,7 @@ def tests():
     yield "c: every call around every limit, between guard bytes, by the reference", calls_compared
     yield "c: every call around every limit, under valgrind", memory_checked
     yield "c: the builder and the check take the buffer to its end, and the other calls no more than the image", past_image
+    yield "c: the same bytes and answers in every rounding mode, which stays, and no flag but inexact by the builder", rounding_modes
     yield "c: the archive calls nothing outside itself but memset", asked_for
     yield "c: make install, and pkg-config finds it", installed
     yield "c: make install with DESTDIR and LIBDIR, and make uninstall", installed_elsewhere
