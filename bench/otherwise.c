@@ -61,10 +61,10 @@ static inline placed put_placed(uint8_t *image, placed to, uint32_t width, uint6
 // A quotient lies 2^-13 or more above a whole number unless it is one, so rounding to the nearest, the default, gives it rounded up.
 static inline uint64_t guessed(double dividend, double divisor)
 {
-    double whole = dividend / divisor + 0.49999904632568359375 + 4503599627370496.0;
+    double raised = dividend / divisor + 4294967296.99999904632568359375;
     uint64_t bits;
-    memcpy(&bits, &whole, 8);
-    return (uint32_t)bits;
+    memcpy(&bits, &raised, 8);
+    return (uint32_t)(bits >> 20);
 }
 
 // A guess counts only where it is right, so that the image is the same in every rounding mode; where it is wrong, whole numbers are divided.

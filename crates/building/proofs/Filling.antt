@@ -6,10 +6,9 @@ use Prim.Native.Nat.{ℕ, suc, _+_, _-_, _*_, _%_, _^_, _≤_, _<_}
 use native.Mathlib.Nat.{mul-le-mul, mul-le-mul-right}
 use native.Mathlib.Omega.{arith}
 use lib.ListN.{length}
-use Rattle.packing.specs.Packing.{packed}
 use Rattle.packing.specs.Writing.{started, takenIn, putBytes, writerBefore, bytesBefore}
 use Rattle.packing.specs.declared.writing.Writer.{Writer}
-use Rattle.packing.proofs.Written.{place-before, words-held, holds-length}
+use Rattle.packing.proofs.Written.{place-before, words-length}
 use Rattle.quotient.specs.Quotient.{roundedUp}
 use Rattle.nodes.specs.declared.Quotients.{Quotients}
 use Rattle.building.specs.Inner.{quotients, IsTable, HasRoom}
@@ -90,10 +89,7 @@ module _ (t : Quotients) (s image : List ℕ) (w : Writer) (i : ℕ) (h : Filled
 
     pub filled-length : length image ≡ length s
     filled-length =
-        ap length (h .bytes)
-        ∙ holds-length s (bytesBefore (t .width) f s j) (writerBefore (t .width) f j) (packed (t .width) (λ (n : ℕ). f n % 2 ^ t .width) j)
-        (words-held (t .width) f s j (ok .wide) (omega (arith, within, small)))
-        (omega (arith, place-before (t .width) f j (omega (arith, within, small)), within, ok .room))
+        ap length (h .bytes) ∙ words-length (t .width) f s j (ok .wide) (omega (arith, within, small)) (omega (arith, within, ok .room))
 
     -- so the next word has room
     pub filled-room : i < t .first + t .count → HasRoom t i (length image)

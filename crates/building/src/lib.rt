@@ -16,13 +16,13 @@ use nodes::Quotients;
 use packing::Writer;
 use precision::Precision;
 
-// A guess at dividend / divisor rounded up, for a quotient below 2^32. The first sum is less than a half above the quotient, so that the nearest whole
-// number to it is the quotient rounded up; the second has one bit for each whole number, and so rounds to it. Nothing is promised: each guess is judged.
+// A guess at dividend / divisor rounded up. Added to 2^32 + 1 - 2^-20 the quotient leaves 20 bits behind the point, and the 32 bits before the point are the
+// quotient rounded up: in every rounding mode, as long as it is below 2^31 and the divisor below 2^18. Nothing of this is promised, since each guess is judged.
 fn guess(dividend: f64, divisor: f64) -> u32
     requires { ⌜ T (positive dividend) × T (not (isNan divisor)) ⌝ }
 {
-    let nearly = dividend / divisor + 0.49999904632568359375;
-    (f64::to_bits(nearly + 4503599627370496.0) % 4294967296) as u32
+    let raised = dividend / divisor + 4294967296.99999904632568359375;
+    (f64::to_bits(raised) / 1048576 % 4294967296) as u32
 }
 
 // Puts word j of a table, which is that of the divisor i = first + j. The bit place is j × width before it and (j + 1) × width behind it.

@@ -234,6 +234,10 @@ put-taken s r w v wide room = by (leb 64 (r .place % 64 + w)) refl
         rw (le-leb w 32 wide, e, le-leb (waitFrom (r .place) + 8) (length s) there) (refl, refl)
     by false e = rw (le-leb w 32 wide, e) (refl, refl)
 
+-- and the place grows by its width
+pub place-after : (s : List ℕ) (r : Writer) (w v : ℕ) → w ≤ 32 → r .place + w ≤ 8 * length s → r .place + w < 2 ^ 64 → putWriter s r w v .place ≡ r .place + w
+place-after s r w v wide room few = ap (λ (x : Writer). x .place) (put-taken s r w v wide room .0) ∙ mod-eq-of-lt few
+
 -- the number P is taken in: the bits that wait are its last, and the bytes of those before them are written over s
 pub record Holds (s now : List ℕ) (r : Writer) (P : ℕ) : Type 0 where
   pub bits : r .waiting % 2 ^ (r .place % 64) ≡ P % 2 ^ (r .place % 64)
@@ -370,6 +374,19 @@ words-held w f s zero wide few = record { bits = refl; bytes = refl }
 words-held w f s (suc j) wide few =
     put-holds s (bytesBefore w f s j) (writerBefore w f j) (packed w (λ (i : ℕ). f i % 2 ^ w) j) (words-held w f s j wide (omega arith)) w (f j) wide
     (omega (arith, place-before w f j (omega arith)))
+
+-- which have their length
+pub words-length : (w : ℕ) (f : ℕ → ℕ) (s : List ℕ) (j : ℕ) → w ≤ 32 → j * w < 2 ^ 64 → j * w ≤ 8 * length s → length (bytesBefore w f s j) ≡ length s
+words-length w f s j wide few room =
+    holds-length s (bytesBefore w f s j) (writerBefore w f j) (packed w (λ (i : ℕ). f i % 2 ^ w) j) (words-held w f s j wide few)
+    (omega (arith, place-before w f j few))
+
+-- so a put of word j, where it has room, gives the writer and the bytes before the word after it
+pub word-put : (w : ℕ) (f : ℕ → ℕ) (s : List ℕ) (j : ℕ) → w ≤ 32 → j * w + w < 2 ^ 64 → j * w + w ≤ 8 * length s
+    → (putWriter (bytesBefore w f s j) (writerBefore w f j) w (f j) ≡ writerBefore w f (suc j)) × (putLeaves (bytesBefore w f s j) (writerBefore w f j) w (f j) ≡ bytesBefore w f s (suc j))
+word-put w f s j wide few room =
+    put-taken (bytesBefore w f s j) (writerBefore w f j) w (f j) wide
+    (omega (arith, place-before w f j (omega arith), words-length w f s j wide (omega arith) (omega arith)))
 
 -- at the end the words stand packed at the front of the bytes
 pub words-finished : (w : ℕ) (f : ℕ → ℕ) (s : List ℕ) (n : ℕ) → w ≤ 32 → n * w < 2 ^ 64 → byteCount w n ≤ length s

@@ -19,6 +19,10 @@
 -- 8. For all contents: what a buffer s holds, also before it is built, is any list of numbers. Only word-bit, check-passes-words,
 --    words-right-bytes and check-passes-rom ask that these are bytes.
 --
+-- 9. While an image is built (document 02, Q-4), the bit place of the next word is one number, which starts at 0 and grows by the width at each word, for
+--    any width and any words: place-starts, place-grows. Before word j it is j × w: place-before-word; each word is put so: word-is-put. Of a
+--    precision it is j × w before word j and 2^k × w after the last: place-before-node, place-after-last; and what is put then is the image: puts-image.
+--
 -- Which words and bytes a call reads is said by what its answer depends on (docs/DECISIONS.md, "Reading"): node-by-its-word, check-by-words,
 -- reciprocal-by-words, reciprocal-by-lower-word, word-by-its-bytes; none past the image: node-by-image, reciprocal-by-image, part-by-image,
 -- part-place-by-image, and, where a word is wrong, check-by-image. The reciprocal reads both words, whatever f is: lower-word-named,
@@ -30,9 +34,9 @@
 use mathlib.Core.Path.{_≡_, refl, _∙_}
 use mathlib.Core.Logic.{_↔_}
 use mathlib.Core.List.{List, _++_}
-use Prim.Native.Nat.{ℕ, _+_, _-_, _*_, _/_, _%_, _^_, _≤_, _<_}
+use Prim.Native.Nat.{ℕ, suc, _+_, _-_, _*_, _/_, _%_, _^_, _≤_, _<_}
 use native.Mathlib.Omega.{arith}
-use lib.ListN.{length, take, getD}
+use lib.ListN.{length, take, drop, getD}
 use Rattle.precision.specs.Precision.{inRange, imageLength, lengthOr0}
 use Rattle.precision.proofs.Range.{range-in}
 use Rattle.units.specs.Units.{tableUnitsInOne, ulpsInOne, tableUnitsInUlp}
@@ -41,6 +45,9 @@ use Rattle.nodes.specs.Nodes.{node, nodeOr0}
 use Rattle.nodes.proofs.Nodes.{node-first, node-last, node-above, node-below, node-falls, node-there, node-past}
 use Rattle.quotient.proofs.Laws.{reaches, least}
 use Rattle.packing.specs.Packing.{Bytes, bitAt, bitOfWord}
+use Rattle.packing.specs.Writing.{putWriter, putLeaves, finishLeaves, writerBefore, bytesBefore}
+use Rattle.packing.specs.declared.writing.Writer.{Writer}
+use Rattle.packing.proofs.Written.{place-after, place-before, word-put}
 use Rattle.tail.specs.Tail.{zeros}
 use Rattle.packing.proofs.Words.{word-lt}
 use Rattle.packing.proofs.Bits.{bit-of-word}
@@ -60,6 +67,7 @@ use Rattle.statements.proofs.Demand1.{check-serves}
 use Rattle.statements.proofs.Built
 use Rattle.statements.proofs.Depends
 use Rattle.statements.proofs.Nodes
+use Rattle.statements.proofs.Puts
 use Rattle.statements.proofs.Reciprocals
 use Rattle.statements.proofs.Sizes
 use Rattle.statements.proofs.Units
@@ -221,6 +229,35 @@ module _ (k : ℕ) (p : IsPrecision k) where
   -- and the buffer passes exactly when it is the image and then zeros
   pub check-passes-rom : (s : List ℕ) → Bytes s → IsLongEnough k s → (checkOutcome k s .number ≡ 0) ↔ (s ≡ image k ++ zeros (length s - imageLength k))
   check-passes-rom s b l = joined (check-passes-words s b l) (Built.right-is-rom k s p b l)
+
+-- The bit place while words f(0), f(1), .. of w bits are put one by one, for any w and any f. A put that has room makes the place grow by w.
+module _ (w : ℕ) (f : ℕ → ℕ) where
+  pub place-starts : writerBefore w f 0 .place ≡ 0
+  place-starts = refl
+
+  pub place-grows : (s : List ℕ) (r : Writer) (v : ℕ) → w ≤ 32 → r .place + w ≤ 8 * length s → r .place + w < 2 ^ 64 → putWriter s r w v .place ≡ r .place + w
+  place-grows s r v wide room few = place-after s r w v wide room few
+
+  pub place-before-word : (j : ℕ) → j * w < 2 ^ 64 → writerBefore w f j .place ≡ j * w
+  place-before-word j few = place-before w f j few
+
+  -- what a put of word j gives, where it has room, is what stands before word j + 1
+  pub word-is-put : (s : List ℕ) (j : ℕ) → w ≤ 32 → j * w + w < 2 ^ 64 → j * w + w ≤ 8 * length s
+      → (putWriter (bytesBefore w f s j) (writerBefore w f j) w (f j) ≡ writerBefore w f (suc j)) × (putLeaves (bytesBefore w f s j) (writerBefore w f j) w (f j) ≡ bytesBefore w f s (suc j))
+  word-is-put s j wide few room = word-put w f s j wide few room
+
+-- Of a precision, whose words are the lowest w = 2k + 2 bits of the nodes: before word j the place is j × w, after the last it is 2^k × w.
+module _ (k : ℕ) (p : IsPrecision k) where
+  pub place-before-node : (j : ℕ) → j ≤ 2 ^ k → writerBefore (2 * k + 2) (node k) j .place ≡ j * (2 * k + 2)
+  place-before-node j h = Puts.place k p j h
+
+  pub place-after-last : writerBefore (2 * k + 2) (node k) (2 ^ k) .place ≡ 2 ^ k * (2 * k + 2)
+  place-after-last = Puts.place k p (2 ^ k) (omega arith)
+
+  -- and with what still waits, the image stands at the front of the buffer, and what was behind it stays
+  pub puts-image : (s : List ℕ) → IsLongEnough k s
+      → finishLeaves (bytesBefore (2 * k + 2) (node k) s (2 ^ k)) (writerBefore (2 * k + 2) (node k) (2 ^ k)) ≡ image k ++ drop (imageLength k) s
+  puts-image s l = Puts.finished k p s l
 
 -- What an answer depends on.
 module _ (k : ℕ) (s s' : List ℕ) (l : IsLongEnough k s) (m : IsLongEnough k s') where

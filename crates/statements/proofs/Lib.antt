@@ -13,5 +13,6 @@ pub mod Nodes
 pub mod Built
 pub mod Depends
 pub mod Parts
+pub mod Puts
 pub mod Requests
 pub mod TableLines

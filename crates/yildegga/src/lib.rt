@@ -21,13 +21,19 @@ pub extern "C" fn yildegga_image_length(k: u32) -> usize
     Precision(k).image_length()
 }
 
-// Writes the image of precision k at the front of the buffer, and zeros behind it to the end.
+// Writes the image of precision k at the front of the buffer, and zeros behind it to the end. The answer is made field by field: handed on whole, it
+// is copied through memory in pieces that overlap, and the processor waits for them.
 #[no_mangle]
 pub extern "C" fn yildegga_build(k: u32, image: &mut [u8]) -> Done
     ensures { λ r. ⌜ r ≡ done (buildOutcome k (now (image .entry))) ⌝ }
     ensures { λ r. ⌜ now (image .exit) ≡ buildLeaves k (now (image .entry)) ⌝ }
 {
-    building::build(Precision(k), image)
+    let done = building::build(Precision(k), image);
+    Done {
+        number: done.number,
+        place: done.place,
+        value: done.value,
+    }
 }
 
 // Whether every word of the image is the construction's and the bytes past it are zero. The place of refusal 6 is the lowest node of a wrong word, that

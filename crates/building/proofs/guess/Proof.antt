@@ -1,4 +1,4 @@
--- `building::guess` meets its contract: the sums of which it takes the bits are no NaN.
+-- `building::guess` meets its contract: the sum of which it takes the bits is no NaN.
 -- Assumes nothing.
 use lib.Ieee.{binary64, div, add, ofBits}
 use borrow.Author.Needs.{needs}
@@ -9,7 +9,7 @@ use Rattle.building.proofs.guess.Tie as tie
 float-to-bits-result : tie.Need-float-to-bits-result
 unfolding ofBits
 float-to-bits-result c =
-    add-number binary64 _ _ (add-number binary64 _ _ (div-number binary64 (c .args .dividend) (c .args .divisor) (c .pre .0) (c .pre .1)) tt) tt
+    add-number binary64 _ _ (div-number binary64 (c .args .dividend) (c .args .divisor) (c .pre .0) (c .pre .1)) tt
 
 cast-result : tie.Need-cast-result
 cast-result c = search needs
