@@ -80,7 +80,7 @@ static void build(answer (*builder)(uint32_t, uint8_t *, size_t), uint32_t k, co
     }
 }
 
-// The builders that guess by doubles and judge, in each rounding mode, since by default no guess is wrong. The default comes last, and stays.
+// The builders that guess by doubles and judge, in each rounding mode. The default comes last, and stays.
 static void build_in_modes(uint32_t k)
 {
     static const unsigned modes[] = {_MM_ROUND_UP, _MM_ROUND_DOWN, _MM_ROUND_TOWARD_ZERO, _MM_ROUND_NEAREST};

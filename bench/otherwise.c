@@ -57,8 +57,8 @@ static inline placed put_placed(uint8_t *image, placed to, uint32_t width, uint6
     return (placed){word, place};
 }
 
-// The quotient and half less 2^-20, rounded to a whole number: with 2^52 added no place is left for a fraction, and the lowest bits are the number.
-// A quotient lies 2^-13 or more above a whole number unless it is one, so rounding to the nearest, the default, gives it rounded up.
+// Added to 2^32 + 1 - 2^-20 the quotient leaves 20 bits behind the point, and the 32 before it are the quotient rounded up: it lies 2^-13 or more above a
+// whole number unless it is one, and no rounding mode moves it so far.
 static inline uint64_t guessed(double dividend, double divisor)
 {
     double raised = dividend / divisor + 4294967296.99999904632568359375;
@@ -67,7 +67,7 @@ static inline uint64_t guessed(double dividend, double divisor)
     return (uint32_t)(bits >> 20);
 }
 
-// A guess counts only where it is right, so that the image is the same in every rounding mode; where it is wrong, whole numbers are divided.
+// A guess counts only where it is right; where it is wrong, whole numbers are divided.
 answer judged_build(uint32_t k, uint8_t *image, size_t length)
 {
     if (11 < k - 1)

@@ -53,10 +53,8 @@ pub fn put(image: &mut [u8], w: Writer, width: u32, word: u64) -> Writer
     let place = std::num::wrapping_add_u64(w.place, width as u64);
     let over = (place % 64) as u32;
     if width <= over {
-        return Writer {
-            waiting: bits::padded(w.waiting, width) + taken,
-            place,
-        };
+        let waiting = bits::padded(w.waiting, width) + taken;
+        return Writer { waiting, place };
     }
     let eighth = w.place / 64;
     if (image.len() as u64) / 8 <= eighth {

@@ -32,8 +32,8 @@ cast-over c = search needs
 padded-requires : tie.Need-padded-requires
 padded-requires c κs = search needs
 
-add-t12 : tie.Need-add-t12
-add-t12 c =
+add-waiting : tie.Need-add-waiting
+add-waiting c =
     let a = c .before .before .before .before .before .before .args in
     omega (
       arith,
@@ -114,7 +114,7 @@ put-spec =
     wrapping-add-u64-requires
     cast-over
     padded-requires
-    add-t12
+    add-waiting
     returns-2
     returns-3
     mul-store-eight
