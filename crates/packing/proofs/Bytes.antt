@@ -2,14 +2,14 @@
 -- Assumes nothing.
 use Prim.Native.Nat.{ℕ, zero, suc, _+_, _-_, _*_, _/_, _%_, _^_, _≤_, _<_}
 use mathlib.Core.Path.{_≡_, refl, sym, ap, ap₂, _∙_, subst}
-use mathlib.Core.List.{List, [], _∷_, _++_, append-assoc}
-use native.Mathlib.Nat.{add-zero, le-trans, le-suc, zero-add, mul-comm, mul-assoc, mul-suc, mul-add-mod-self-right, mod-eq-of-lt, mod-one}
+use mathlib.Core.List.{List, [], _∷_, _++_, append-assoc, append-nil}
+use native.Mathlib.Nat.{add-zero, add-suc, div-one, le-trans, le-suc, zero-add, mul-comm, mul-assoc, mul-suc, mul-add-mod-self-right, mod-eq-of-lt, mod-one}
 use native.Mathlib.Numerals.{add-one}
 use native.Mathlib.Omega.{arith}
 use lib.ListN.{getD, length, take, length-append}
-use lib.Seq.{take-suc, getD-at}
+use lib.Seq.{take-suc, take-at, getD-at}
 use lib.Arith.{digits-lt}
-use lib.Pow.{pow-add, high, low, mod-pow-add}
+use lib.Pow.{pow-add, high, low, shr-shr, mod-pow-add}
 use Rattle.packing.specs.Packing.{toBytes, bytesValue, Bytes}
 use Rattle.packing.proofs.Numbers.{packed-lt, packed-add, packed-ext}
 
@@ -67,6 +67,32 @@ toBytes-value (suc n) s hs h =
     ap₂ (λ (x y : ℕ). toBytes n x ++ (y ∷ [])) (high (bytesValue s 0 n) 8 (hs (0 + n))) (low (bytesValue s 0 n) 8 (hs (0 + n)))
     ∙ ap₂ (λ (x : List ℕ) (y : ℕ). x ++ (y ∷ [])) (toBytes-value n s hs (le-trans (le-suc n) h)) (ap (λ (i : ℕ). getD s i 0) (zero-add n))
     ∙ sym (take-suc s n 0 h)
+
+-- bytes, then bytes: the high part of a number and its low part
+pub toBytes-add : (a b v : ℕ) → toBytes (a + b) v ≡ toBytes a (v / 2 ^ (8 * b)) ++ toBytes b v
+toBytes-add a zero v =
+    ap (λ (n : ℕ). toBytes n v) (add-zero a) ∙ ap (toBytes a) (sym (div-one v)) ∙ sym (append-nil (toBytes a (v / 1)))
+toBytes-add a (suc b) v =
+    ap (λ (n : ℕ). toBytes n v) (add-suc a b)
+    ∙ ap (λ (l : List ℕ). l ++ (v % 256 ∷ [])) (toBytes-add a b (v / 256))
+    ∙ append-assoc (toBytes a (v / 256 / 2 ^ (8 * b))) (toBytes b (v / 256)) (v % 256 ∷ [])
+    ∙ ap (λ (x : ℕ). toBytes a x ++ (toBytes b (v / 256) ++ (v % 256 ∷ []))) (shr-shr v 8 (8 * b) ∙ ap (λ (e : ℕ). v / 2 ^ e) more)
+  where
+    more : 8 + 8 * b ≡ 8 * suc b
+    more = omega arith
+
+-- only the lowest bits of a number show in its bytes
+pub toBytes-low : (n v : ℕ) → toBytes n (v % 2 ^ (8 * n)) ≡ toBytes n v
+toBytes-low n v =
+    ap (toBytes n) (sym (value-toBytes n v []))
+    ∙ toBytes-value n (toBytes n v ++ []) (bytes-append (toBytes n v) [] (bytes-toBytes n v) (λ i. omega arith)) (omega (arith, long))
+    ∙ take-at (toBytes n v) [] n (length-toBytes n v)
+  where
+    long : length (toBytes n v ++ []) ≡ n
+    long = ap length (append-nil (toBytes n v)) ∙ length-toBytes n v
+
+pub toBytes-same : (n x y : ℕ) → x % 2 ^ (8 * n) ≡ y % 2 ^ (8 * n) → toBytes n x ≡ toBytes n y
+toBytes-same n x y e = sym (toBytes-low n x) ∙ ap (toBytes n) e ∙ toBytes-low n y
 
 -- bytes, then bytes: the number of both is that of the first, moved up, and that of the second
 pub value-add : (s : List ℕ) (a m n : ℕ) → bytesValue s a (m + n) ≡ bytesValue s a m * 2 ^ (n * 8) + bytesValue s (a + m) n

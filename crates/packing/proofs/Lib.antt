@@ -1,6 +1,6 @@
 pub mod Bits
 pub mod Bytes
-pub mod Giving
+pub mod Storing
 pub mod Written
 pub mod Image
 pub mod Numbers

@@ -3,154 +3,32 @@
 -- Assumes nothing.
 use Prim.Native.Nat.{ℕ, zero, suc, _+_, _-_, _*_, _/_, _%_, _^_, _≤_, _<_}
 use mathlib.Core.Path.{_≡_, refl, sym, ap, ap₂, _∙_, subst}
-use mathlib.Core.Bool.{Bool, true, false, cond}
-use mathlib.Core.List.{List, [], _∷_, _++_, append-assoc, append-nil}
-use native.Mathlib.Nat.{add-zero, add-suc, add-assoc, div-one, mod-lt, mod-eq-of-lt, le-trans, mul-suc, mul-mod-left, mul-div-mul-right}
-use native.Mathlib.Numerals.{add-one}
+use mathlib.Core.Bool.{Bool, true, false}
+use mathlib.Core.List.{List, _++_}
+use native.Mathlib.Nat.{add-comm, add-zero, mod-lt, mod-eq-of-lt, mul-mod-left, mul-div-mul-right}
 use native.Mathlib.Omega.{arith}
 use lib.Dec.{leb}
-use lib.ListN.{length, take, drop, set, take-append-drop, length-append, length-take, length-drop}
-use lib.Seq.{take-at, drop-append-add, drop-drop}
+use lib.ListN.{length, take, drop, length-append, length-drop}
 use lib.Pow.{pow-pos, pow-add, shr-shr, shr-lt, shl-shr, split, high, low, field, mod-mod-pow, mod-pow-add}
 use borrow.Author.Tests.{leb-true, leb-false, le-leb, lt-leb}
-use Rattle.packing.specs.Packing.{packed, toBytes, byteCount, fillBits, packedBytes, Bytes}
-use Rattle.packing.specs.Writing.{stored, waitFrom, completes, joined, takenIn, putBytes, putWriter, putLeaves, finishLeaves, bytesTaken, writerBefore, bytesBefore}
+use Rattle.packing.specs.Packing.{packed, toBytes, byteCount, packedBytes}
+use Rattle.packing.specs.Writing.{stored, waitFrom, joined, takenIn, putBytes, putWriter, putLeaves, finishLeaves, bytesTaken, writerBefore, bytesBefore}
 use Rattle.packing.specs.declared.writing.Writer.{Writer}
-use Rattle.packing.proofs.Bytes.{length-toBytes, bytes-append, bytes-toBytes, value-toBytes, toBytes-value}
-use Rattle.packing.proofs.Giving.{take-high, take-low, write-next}
+use Rattle.packing.proofs.Bytes.{length-toBytes, toBytes-add, toBytes-low, toBytes-same}
+use Rattle.packing.proofs.Storing.{stored-behind}
 
--- bytes, then bytes: the high part of a number and its low part
-pub toBytes-add : (a b v : ℕ) → toBytes (a + b) v ≡ toBytes a (v / 2 ^ (8 * b)) ++ toBytes b v
-toBytes-add a zero v =
-    ap (λ (n : ℕ). toBytes n v) (add-zero a) ∙ ap (toBytes a) (sym (div-one v)) ∙ sym (append-nil (toBytes a (v / 1)))
-toBytes-add a (suc b) v =
-    ap (λ (n : ℕ). toBytes n v) (add-suc a b)
-    ∙ ap (λ (l : List ℕ). l ++ (v % 256 ∷ [])) (toBytes-add a b (v / 256))
-    ∙ append-assoc (toBytes a (v / 256 / 2 ^ (8 * b))) (toBytes b (v / 256)) (v % 256 ∷ [])
-    ∙ ap (λ (x : ℕ). toBytes a x ++ (toBytes b (v / 256) ++ (v % 256 ∷ []))) (shr-shr v 8 (8 * b) ∙ ap (λ (e : ℕ). v / 2 ^ e) more)
-  where
-    more : 8 + 8 * b ≡ 8 * suc b
-    more = omega arith
+-- a word v of w bits is taken: the bytes stay, and the bits that wait are followed by the word
+take-high : (p v w left : ℕ) → v < 2 ^ w → (p * 2 ^ w + v) / 2 ^ (left + w) ≡ p / 2 ^ left
+take-high p v w left h =
+    ap (λ (x : ℕ). (p * 2 ^ w + v) / 2 ^ x) (add-comm left w)
+    ∙ sym (shr-shr (p * 2 ^ w + v) w left) ∙ ap (λ (x : ℕ). x / 2 ^ left) (high p w h)
 
--- only the lowest bits of a number show in its bytes
-toBytes-low : (n v : ℕ) → toBytes n (v % 2 ^ (8 * n)) ≡ toBytes n v
-toBytes-low n v =
-    ap (toBytes n) (sym (value-toBytes n v []))
-    ∙ toBytes-value n (toBytes n v ++ []) (bytes-append (toBytes n v) [] (bytes-toBytes n v) (λ i. omega arith)) (omega (arith, long))
-    ∙ take-at (toBytes n v) [] n (length-toBytes n v)
-  where
-    long : length (toBytes n v ++ []) ≡ n
-    long = ap length (append-nil (toBytes n v)) ∙ length-toBytes n v
-
-pub toBytes-same : (n x y : ℕ) → x % 2 ^ (8 * n) ≡ y % 2 ^ (8 * n) → toBytes n x ≡ toBytes n y
-toBytes-same n x y e = sym (toBytes-low n x) ∙ ap (toBytes n) e ∙ toBytes-low n y
-
--- a number of 64 bits as eight bytes, each by one division
-abbrev pub eightBytes : ℕ → List ℕ
-eightBytes v =
-    v / 72057594037927936 ∷ v / 281474976710656 % 256 ∷ v / 1099511627776 % 256 ∷ v / 4294967296 % 256
-    ∷ v / 16777216 % 256 ∷ v / 65536 % 256 ∷ v / 256 % 256 ∷ v % 256 ∷ []
-
-pub toBytes-eight : (v : ℕ) → v < 2 ^ 64 → toBytes 8 v ≡ eightBytes v
-toBytes-eight v h =
-    rw (shr-shr v 8 8, shr-shr v 16 8, shr-shr v 24 8, shr-shr v 32 8, shr-shr v 40 8, shr-shr v 48 8, mod-eq-of-lt top) refl
-  where
-    top : v / 72057594037927936 < 256
-    top = omega arith
-
--- bytes stored within a list keep its length
-pub length-stored : (s : List ℕ) (a n v : ℕ) → a + n ≤ length s → length (stored s a n v) ≡ length s
-length-stored s a n v h =
-    length-append (take a s) (toBytes n v ++ drop (a + n) s)
-    ∙ omega (arith, length-take a s, length-append (toBytes n v) (drop (a + n) s), length-toBytes n v, length-drop (a + n) s)
-
--- bytes stored behind those that were written over a list
-pub stored-behind : (t s : List ℕ) (a n v : ℕ) → length t ≡ a → stored (t ++ drop a s) a n v ≡ (t ++ toBytes n v) ++ drop (a + n) s
-stored-behind t s a n v e =
-    ap₂ (λ (x y : List ℕ). x ++ (toBytes n v ++ y)) (take-at t (drop a s) a e) behind
-    ∙ sym (append-assoc t (toBytes n v) (drop (a + n) s))
-  where
-    behind : drop (a + n) (t ++ drop a s) ≡ drop (a + n) s
-    behind = ap (λ (x : ℕ). drop (x + n) (t ++ drop a s)) (sym e) ∙ drop-append-add t (drop a s) n ∙ drop-drop n a s
-
--- a byte more of a number of 64 bits, of which m bytes are stored: the highest of what is left when those are shifted out
-module _ (s : List ℕ) (a v : ℕ) where
-  pub stored-none : s ≡ stored s a 0 (v / 2 ^ 64)
-  stored-none = sym (take-append-drop a s) ∙ ap (λ (n : ℕ). take a s ++ drop n s) (sym (add-zero a))
-
-  pub stored-more : (m : ℕ) → m < 8 → a + m < length s
-      → set (stored s a m (v / 2 ^ (64 - 8 * m))) (a + m) (v * 2 ^ (8 * m) % 2 ^ 64 / 72057594037927936) ≡ stored s a (m + 1) (v / 2 ^ (64 - 8 * (m + 1)))
-  stored-more m few room =
-      ap (λ (l : List ℕ). set l (a + m) b) (sym (append-assoc (take a s) (toBytes m x) (drop (a + m) s)))
-      ∙ write-next (take a s ++ toBytes m x) s (a + m) b
-      (length-append (take a s) (toBytes m x) ∙ omega (arith, length-take a s, length-toBytes m x)) room
-      ∙ ap₂ (λ (l : List ℕ) (n : ℕ). l ++ drop n s)
-      (append-assoc (take a s) (toBytes m x) (b ∷ [])
-      ∙ ap (λ (l : List ℕ). take a s ++ l) (ap₂ (λ (z c : ℕ). toBytes m z ++ (c ∷ [])) up byte ∙ ap (λ (n : ℕ). toBytes n y) (sym (add-one m))))
-      (add-assoc a m 1)
-      ∙ append-assoc (take a s) (toBytes (m + 1) y) (drop (a + (m + 1)) s)
-    where
-      x : ℕ
-      x = v / 2 ^ (64 - 8 * m)
-
-      y : ℕ
-      y = v / 2 ^ (64 - 8 * (m + 1))
-
-      b : ℕ
-      b = v * 2 ^ (8 * m) % 2 ^ 64 / 72057594037927936
-
-      eight-more : 64 - 8 * m ≡ 64 - 8 * (m + 1) + 8
-      eight-more = omega arith
-
-      up : x ≡ y / 256
-      up = ap (λ (e : ℕ). v / 2 ^ e) eight-more ∙ sym (shr-shr v (64 - 8 * (m + 1)) 8)
-
-      seven : 56 ≡ 8 * m + (64 - 8 * (m + 1))
-      seven = omega arith
-
-      byte : b ≡ y % 256
-      byte =
-          field (v * 2 ^ (8 * m)) 8 56
-          ∙ ap (λ (z : ℕ). z % 256)
-          (ap (λ (e : ℕ). v * 2 ^ (8 * m) / 2 ^ e) seven
-          ∙ sym (shr-shr (v * 2 ^ (8 * m)) (8 * m) (64 - 8 * (m + 1)))
-          ∙ ap (λ (z : ℕ). z / 2 ^ (64 - 8 * (m + 1))) (shl-shr v (8 * m)))
-
-  -- and what is left then
-  pub rest-more : (m : ℕ) → v * 2 ^ (8 * m) % 2 ^ 64 * 256 % 2 ^ 64 ≡ v * 2 ^ (8 * (m + 1)) % 2 ^ 64
-  rest-more m = shifted (v * 2 ^ (8 * m)) ∙ ap (λ (x : ℕ). x % 2 ^ 64) (regroup v (2 ^ (8 * m)) ∙ ap (λ (x : ℕ). v * x) (sym (pow-add 2 (8 * m) 8) ∙ ap (λ (e : ℕ). 2 ^ e) more))
-    where
-      shifted : (x : ℕ) → x % 2 ^ 64 * 256 % 2 ^ 64 ≡ x * 256 % 2 ^ 64
-      shifted x = omega arith
-
-      regroup : (x y : ℕ) → x * y * 256 ≡ x * (y * 256)
-      regroup x y = omega arith
-
-      more : 8 * m + 8 ≡ 8 * (m + 1)
-      more = omega arith
-
--- the first n bytes of the lowest k bits of a number, moved up to the top of 64
-pub stored-top : (s : List ℕ) (a W k n : ℕ) → k ≤ 8 * n → n ≤ 8 → stored s a n (W * 2 ^ (64 - k) % 2 ^ 64 / 2 ^ (64 - 8 * n)) ≡ stored s a n (W * 2 ^ (8 * n - k))
-stored-top s a W k n h few =
-    ap (λ (l : List ℕ). take a s ++ (l ++ drop (a + n) s))
-    (ap (toBytes n)
-    (ap (λ (e : ℕ). W * 2 ^ (64 - k) % 2 ^ e / 2 ^ (64 - 8 * n)) whole
-    ∙ field (W * 2 ^ (64 - k)) (8 * n) (64 - 8 * n)
-    ∙ ap (λ (x : ℕ). x / 2 ^ (64 - 8 * n) % 2 ^ (8 * n)) (ap (λ (e : ℕ). W * 2 ^ e) apart ∙ ap (λ (x : ℕ). W * x) (pow-add 2 (8 * n - k) (64 - 8 * n)) ∙ regroup W (2 ^ (8 * n - k)) (2 ^ (64 - 8 * n)))
-    ∙ ap (λ (x : ℕ). x % 2 ^ (8 * n)) (shl-shr (W * 2 ^ (8 * n - k)) (64 - 8 * n)))
-    ∙ toBytes-low n (W * 2 ^ (8 * n - k)))
-  where
-    whole : 64 ≡ 8 * n + (64 - 8 * n)
-    whole = omega arith
-
-    apart : 64 - k ≡ 8 * n - k + (64 - 8 * n)
-    apart = omega arith
-
-    regroup : (x y z : ℕ) → x * (y * z) ≡ x * y * z
-    regroup x y z = omega arith
+take-low : (p v w left : ℕ) → v < 2 ^ w → (p * 2 ^ w + v) % 2 ^ (left + w) ≡ (p % 2 ^ left) * 2 ^ w + v
+take-low p v w left h =
+    mod-pow-add (p * 2 ^ w + v) left w ∙ ap₂ (λ (x y : ℕ). (x % 2 ^ left) * 2 ^ w + y) (high p w h) (low p w h)
 
 -- a power of two within another
-pub mod-within : (x i j : ℕ) → i ≤ j → x % 2 ^ j % 2 ^ i ≡ x % 2 ^ i
+mod-within : (x i j : ℕ) → i ≤ j → x % 2 ^ j % 2 ^ i ≡ x % 2 ^ i
 mod-within x i j h = ap (λ (e : ℕ). x % 2 ^ e % 2 ^ i) up ∙ mod-mod-pow x (j - i) i
   where
     up : j ≡ (j - i) + i
@@ -167,7 +45,7 @@ joined-low W b w h l =
     up = omega arith
 
 -- and what is left of it when its last bits are cut off
-pub joined-high : (W b w o : ℕ) → o ≤ w → (W * 2 ^ w + b) / 2 ^ o ≡ W * 2 ^ (w - o) + b / 2 ^ o
+joined-high : (W b w o : ℕ) → o ≤ w → (W * 2 ^ w + b) / 2 ^ o ≡ W * 2 ^ (w - o) + b / 2 ^ o
 joined-high W b w o h =
     ap (λ (x : ℕ). x / 2 ^ o) (ap₂ (λ (x y : ℕ). W * x + y) apart (sym (split b o)) ∙ regroup W (2 ^ (w - o)) (2 ^ o) (b / 2 ^ o) (b % 2 ^ o))
     ∙ high (W * 2 ^ (w - o) + b / 2 ^ o) o (mod-lt b (pow-pos o))
@@ -239,13 +117,13 @@ pub place-after : (s : List ℕ) (r : Writer) (w v : ℕ) → w ≤ 32 → r .pl
 place-after s r w v wide room few = ap (λ (x : Writer). x .place) (put-taken s r w v wide room .0) ∙ mod-eq-of-lt few
 
 -- the number P is taken in: the bits that wait are its last, and the bytes of those before them are written over s
-pub record Holds (s now : List ℕ) (r : Writer) (P : ℕ) : Type 0 where
-  pub bits : r .waiting % 2 ^ (r .place % 64) ≡ P % 2 ^ (r .place % 64)
-  pub bytes : now ≡ toBytes (waitFrom (r .place)) (P / 2 ^ (r .place % 64)) ++ drop (waitFrom (r .place)) s
+record Holds (s now : List ℕ) (r : Writer) (P : ℕ) : Type 0 where
+  bits : r .waiting % 2 ^ (r .place % 64) ≡ P % 2 ^ (r .place % 64)
+  bytes : now ≡ toBytes (waitFrom (r .place)) (P / 2 ^ (r .place % 64)) ++ drop (waitFrom (r .place)) s
 
 module _ (s now : List ℕ) (r : Writer) (P : ℕ) (h : Holds s now r P) where
   -- the bytes written lie within the list, whose length stays
-  pub holds-length : waitFrom (r .place) ≤ length s → length now ≡ length s
+  holds-length : waitFrom (r .place) ≤ length s → length now ≡ length s
   holds-length within =
       ap length (h .bytes)
       ∙ length-append (toBytes (waitFrom (r .place)) (P / 2 ^ (r .place % 64))) (drop (waitFrom (r .place)) s)
@@ -306,7 +184,7 @@ module _ (s now : List ℕ) (r : Writer) (P : ℕ) (h : Holds s now r P) where
               ∙ sym (toBytes-add (waitFrom (r .place)) 8 (Q / 2 ^ o))));
         })
 
-    pub put-holds : Holds s (putBytes w v r now) (takenIn w v r) (P * 2 ^ w + v % 2 ^ w)
+    put-holds : Holds s (putBytes w v r now) (takenIn w v r) (P * 2 ^ w + v % 2 ^ w)
     put-holds = by (leb 64 (r .place % 64 + w)) refl
       where
         by : (t : Bool) → leb 64 (r .place % 64 + w) ≡ t → Holds s (putBytes w v r now) (takenIn w v r) (P * 2 ^ w + v % 2 ^ w)
@@ -314,7 +192,7 @@ module _ (s now : List ℕ) (r : Writer) (P : ℕ) (h : Holds s now r P) where
         by false e = waits (leb-false 64 (r .place % 64 + w) e)
 
   -- what waits is stored, with zero bits to the byte's end: all that is taken in stands at the front
-  pub finish-holds : bytesTaken (r .place) ≤ length s
+  finish-holds : bytesTaken (r .place) ≤ length s
       → finishLeaves now r ≡ toBytes (bytesTaken (r .place)) (P * 2 ^ (8 * bytesTaken (r .place) - r .place)) ++ drop (bytesTaken (r .place)) s
   finish-holds room =
       rw (le-leb (bytesTaken (r .place)) (length now) (omega (arith, holds-length (omega arith))))
@@ -368,7 +246,7 @@ place-before w f (suc j) h =
     ap (λ (p : ℕ). (p + w) % 2 ^ 64) (place-before w f j (omega arith)) ∙ mod-eq-of-lt more ∙ omega arith
 
 -- before word j the number of the words before it is taken in
-pub words-held : (w : ℕ) (f : ℕ → ℕ) (s : List ℕ) (j : ℕ) → w ≤ 32 → j * w < 2 ^ 64
+words-held : (w : ℕ) (f : ℕ → ℕ) (s : List ℕ) (j : ℕ) → w ≤ 32 → j * w < 2 ^ 64
     → Holds s (bytesBefore w f s j) (writerBefore w f j) (packed w (λ (i : ℕ). f i % 2 ^ w) j)
 words-held w f s zero wide few = record { bits = refl; bytes = refl }
 words-held w f s (suc j) wide few =

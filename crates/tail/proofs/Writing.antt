@@ -6,7 +6,7 @@ use Prim.Native.Nat.{ℕ, zero, suc, _+_, _-_, _≤_, _<_}
 use native.Mathlib.Omega.{arith}
 use lib.ListN.{length, take, drop, set, replicate-append-replicate, length-append, length-replicate, length-take, take-append-drop, drop-of-length-le}
 use Rattle.packing.specs.Packing.{Bytes}
-use Rattle.packing.proofs.Giving.{write-next}
+use Rattle.packing.proofs.Storing.{write-next}
 use Rattle.tail.specs.Tail.{zeros}
 use Rattle.tail.specs.Inner.{clearedFrom}
 

@@ -2,13 +2,11 @@
 -- measure is the number of words to come.
 -- Assumes nothing.
 use mathlib.Core.Path.{_≡_, sym, ap, _∙_, subst}
-use mathlib.Core.Bool.{Bool, not}
-use mathlib.Core.List.{List}
-use Prim.Native.Nat.{ℕ, _+_, _-_, _*_, _≤_, _<_, _^_}
+use mathlib.Core.Bool.{not}
+use Prim.Native.Nat.{ℕ, _-_, _*_, _^_}
 use native.Mathlib.Omega.{arith}
 use lib.Dec.{T}
 use lib.Ieee.{binary64, ofBits, inFloat, isNan}
-use lib.ListN.{length}
 use borrow.Author.Needs.{needs}
 use borrow.Author.Tests.{le-leb}
 use Rattle.packing.specs.Writing.{writerBefore, bytesBefore}
@@ -55,7 +53,7 @@ put-word-requires c κs =
     let a = start .args in
     let l = c .before .before .before .loop in
     let h = l .inv .0 in (
-      filled-room (a .table) (a .image .now) (l .image) (l .w) (l .i) h (start .pre) (c .before .before .loop-test .taken),
+      filled-room (a .table) (a .image .now) (l .image) (l .w) (l .i) h (start .pre) (omega (arith, c .before .before .loop-test .taken)),
       filled-place (a .table) (a .image .now) (l .image) (l .w) (l .i) h (start .pre),
     )
 
@@ -71,7 +69,7 @@ loop-again c =
     let a = c .before .before .before .before .before .before .before .before .before .before .before .before .args in
     let put = c .before .before .put-word in
     let l = c .before .before .before .before .before .before .loop in (
-      filled-more (a .table) (a .image .now) (l .image) (l .w) (l .i) (l .inv .0) (put .last .0) (put .result) (c .before .before .before .before .before .loop-test .taken)
+      filled-more (a .table) (a .image .now) (l .image) (l .w) (l .i) (l .inv .0) (put .last .0) (put .result) (omega (arith, c .before .before .before .before .before .loop-test .taken))
           (put .ensures .0) (put .ensures .1 .0),
       add-number binary64 (l .divisor) _ (l .inv .1) tt,
     )

@@ -1,6 +1,6 @@
 -- `building::guess` meets its contract: the sum of which it takes the bits is no NaN.
 -- Assumes nothing.
-use lib.Ieee.{binary64, div, add, ofBits}
+use lib.Ieee.{binary64, ofBits}
 use borrow.Author.Needs.{needs}
 use Rattle.building.proofs.Floats.{add-number, div-number}
 use Rattle.building.proofs.guess.Statement.{statement}

@@ -1,7 +1,7 @@
 -- `building::put_word` meets its contract: the guess is settled, and the word has room, so that it is put and the place grows by the width.
 -- Assumes nothing.
 use mathlib.Core.Path.{_≡_, ap, _∙_}
-use Prim.Native.Nat.{ℕ, _+_, _-_, _*_, _%_, _^_, _≤_, _<_}
+use Prim.Native.Nat.{ℕ, _+_, _-_, _*_, _%_, _^_, _≤_}
 use native.Mathlib.Nat.{mod-eq-of-lt, mul-le-mul}
 use native.Mathlib.Omega.{arith}
 use lib.ListN.{length}

@@ -3,13 +3,13 @@
 -- Assumes nothing.
 use mathlib.Core.Path.{_≡_, refl, sym, ap, ap₂, _∙_}
 use mathlib.Core.List.{List}
-use Prim.Native.Nat.{ℕ, _+_, _-_, _*_, _/_, _%_, _^_, _≤_, _<_}
+use Prim.Native.Nat.{ℕ, _+_, _-_, _*_, _/_, _%_, _^_, _≤_}
 use native.Mathlib.Omega.{arith}
 use lib.ListN.{length, set}
 use borrow.Author.Needs.{needs}
 use borrow.Author.Tests.{le-leb, lt-leb}
 use Rattle.packing.specs.Writing.{stored, waitFrom, bytesTaken}
-use Rattle.packing.proofs.Written.{length-stored, stored-none, stored-more, rest-more, stored-top}
+use Rattle.packing.proofs.Storing.{length-stored, stored-none, stored-more, rest-more, stored-top}
 use Rattle.packing.proofs.writing.finish.Statement.{statement}
 use Rattle.packing.proofs.writing.finish.Tie as tie
 

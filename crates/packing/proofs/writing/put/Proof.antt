@@ -1,14 +1,11 @@
 -- `packing::put` meets its contract, whichever way it goes: the word is too wide, all waits on, eight bytes have no room, or they are stored.
 -- Assumes nothing.
-use mathlib.Core.Path.{_≡_, refl, sym, ap, ap₂, _∙_}
-use mathlib.Core.List.{List}
-use Prim.Native.Nat.{ℕ, _+_, _-_, _*_, _/_, _%_, _^_, _≤_, _<_}
+use mathlib.Core.Path.{_≡_, refl, ap, ap₂, _∙_}
+use Prim.Native.Nat.{ℕ, _+_, _-_, _*_, _/_, _%_, _^_, _≤_}
 use native.Mathlib.Nat.{mod-lt, mul-comm}
 use native.Mathlib.Omega.{arith}
-use lib.ListN.{length}
 use lib.Pow.{pow-pos}
-use Rattle.packing.specs.Writing.{stored, waitFrom}
-use Rattle.packing.specs.declared.writing.Writer.{Writer}
+use Rattle.packing.specs.Writing.{stored}
 use Rattle.packing.proofs.Written.{joined-low, put-wide, put-full, put-waits, put-stores, over, eight, eight-is}
 use borrow.Author.Needs.{needs}
 use Rattle.packing.proofs.writing.put.Statement.{statement}

@@ -9,7 +9,7 @@ use native.Mathlib.Omega.{arith}
 use lib.ListN.{length-set, take, drop}
 use lib.Seq.{sets-eq}
 use borrow.Author.Needs.{needs}
-use Rattle.packing.proofs.Written.{eightBytes, toBytes-eight}
+use Rattle.packing.proofs.Storing.{eightBytes, toBytes-eight}
 use Rattle.packing.proofs.writing.store_eight.Statement.{statement}
 use Rattle.packing.proofs.writing.store_eight.Tie as tie
 
