@@ -23,7 +23,7 @@ pub fn image_length(k: u32) -> Option<usize> {
 /// Turned back by refusals 1 and 2.
 ///
 /// It computes with doubles, the one call that does. The bytes are the same in every rounding mode, and the mode stays as it is. The inexact
-/// flag may be raised: where that has been made to trap, it is masked for the call.
+/// flag may be raised: who has made that trap has to mask it for the call.
 ///
 /// ```
 /// let mut image = [0xFF; 3];

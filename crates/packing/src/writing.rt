@@ -56,13 +56,13 @@ pub fn put(image: &mut [u8], w: Writer, width: u32, word: u64) -> Writer
         let waiting = bits::padded(w.waiting, width) + taken;
         return Writer { waiting, place };
     }
-    let eighth = w.place / 64;
-    if (image.len() as u64) / 8 <= eighth {
+    let group = w.place / 64;
+    if (image.len() as u64) / 8 <= group {
         return w;
     }
     store_eight(
         image,
-        (8 * eighth) as usize,
+        (8 * group) as usize,
         bits::padded(w.waiting, width - over) + bits::high(taken, over),
     );
     Writer {
