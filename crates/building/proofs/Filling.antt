@@ -11,7 +11,8 @@ use Rattle.packing.specs.declared.writing.Writer.{Writer}
 use Rattle.packing.proofs.Written.{place-before, words-length}
 use Rattle.quotient.specs.Quotient.{roundedUp}
 use Rattle.nodes.specs.declared.Quotients.{Quotients}
-use Rattle.building.specs.Inner.{quotients, IsTable, HasRoom}
+use Rattle.image.specs.Inner.{quotients}
+use Rattle.building.specs.Inner.{CanFill, IsDivisor}
 
 -- a word behind those before the divisor i takes as many bits more
 pub more : (i first w : ℕ) → first ≤ i → (i - first) * w + w ≡ (i + 1 - first) * w
@@ -73,8 +74,8 @@ module _ (t : Quotients) (s image : List ℕ) (w : Writer) (i : ℕ) (h : Filled
       next : suc j ≡ i + 1 - t .first
       next = omega (arith, h .from)
 
-  module _ (ok : IsTable t (length s)) where
-    -- the words up to there end within the bytes, which are far fewer than 2^61
+  module _ (ok : CanFill t (length s)) where
+    -- the words up to there end where all end, and those have far fewer than 2^64 bits
     within : j * t .width ≤ t .count * t .width
     within = mul-le-mul-right (t .width) (omega (arith, h .from, h .upto))
 
@@ -91,15 +92,6 @@ module _ (t : Quotients) (s image : List ℕ) (w : Writer) (i : ℕ) (h : Filled
     filled-length =
         ap length (h .bytes) ∙ words-length (t .width) f s j (ok .wide) (omega (arith, within, small)) (omega (arith, within, ok .room))
 
-    -- so the next word has room
-    pub filled-room : i < t .first + t .count → HasRoom t i (length image)
-    filled-room l =
-        record {
-          wide = ok .wide;
-          exact = ok .exact;
-          from = h .from;
-          ends = omega (arith, mul-le-mul-right (t .width) upto, ok .room, filled-length);
-        }
-      where
-        upto : i + 1 - t .first ≤ t .count
-        upto = omega (arith, h .from)
+    -- so the buffer can still be filled
+    pub filled-can : CanFill t (length image)
+    filled-can = record { wide = ok .wide; few = ok .few; above = ok .above; exact = ok .exact; room = omega (arith, ok .room, filled-length) }

@@ -1,26 +1,19 @@
--- What only inner promises cite: the words that a builder puts, and what it needs to know of their table and the buffer.
+-- What only inner promises cite: what the builder needs to know of a table and of the buffer that it is lent.
 -- Assumes nothing.
-use Prim.Native.Nat.{ℕ, _+_, _-_, _*_, _^_, _≤_, _<_}
+use Prim.Native.Nat.{ℕ, _+_, _^_, _≤_, _<_}
 use Rattle.layout.specs.Layout.{lengthOf}
-use Rattle.quotient.specs.Quotient.{roundedUp}
 use Rattle.nodes.specs.declared.Quotients.{Quotients}
 use Rattle.image.specs.Inner.{layoutOf}
 
--- what is put at word j: its lowest bits are the word
-abbrev pub quotients : Quotients → ℕ → ℕ
-quotients t j = roundedUp (t .numerator) (t .first + j)
-
--- a table whose words can be put and whose numerator a double holds, with room for them in n bytes
-pub record IsTable (t : Quotients) (n : ℕ) : Type 0 where
+-- n bytes can be filled with the words of t: they can be put and have room, their divisors have 32 bits, and a double holds the numerator, which is not 0
+pub record CanFill (t : Quotients) (n : ℕ) : Type 0 where
   pub wide : t .width ≤ 32
   pub few : t .first + t .count < 2 ^ 32
   pub above : 0 < t .numerator
   pub exact : t .numerator ≤ 2 ^ 53
   pub room : lengthOf (layoutOf t) ≤ n
 
--- the divisor i is that of one of its words, which ends within n bytes
-pub record HasRoom (t : Quotients) (i n : ℕ) : Type 0 where
-  pub wide : t .width ≤ 32
-  pub exact : t .numerator ≤ 2 ^ 53
+-- i is the divisor of one of its words
+pub record IsDivisor (t : Quotients) (i : ℕ) : Type 0 where
   pub from : t .first ≤ i
-  pub ends : (i + 1 - t .first) * t .width ≤ 8 * n
+  pub upto : i < t .first + t .count

@@ -10,14 +10,16 @@ ghost use Rattle.answers.specs.Answer.{done};
 ghost use Rattle.packing.specs.Writing.{takenIn, putBytes, writerBefore, bytesBefore};
 ghost use Rattle.quotient.specs.Quotient.{roundedUp};
 ghost use Rattle.image.specs.Calls.{buildOutcome, buildLeaves};
-ghost use Rattle.building.specs.Inner.{quotients, IsTable, HasRoom};
+ghost use Rattle.image.specs.Inner.{quotients};
+ghost use Rattle.building.specs.Inner.{CanFill, IsDivisor};
 use answers::Done;
 use nodes::Quotients;
 use packing::Writer;
 use precision::Precision;
 
-// A guess at dividend / divisor rounded up. Added to 2^32 + 1 - 2^-20 the quotient leaves 20 bits behind the point, and the 32 bits before the point are the
-// quotient rounded up: in every rounding mode, as long as it is below 2^31 and the divisor below 2^18. Nothing of this is promised, since each guess is judged.
+// A guess at dividend / divisor rounded up. Added to 2^32 + 1 - 2^-20 the quotient leaves 20 bits behind the point, and the lowest 32 before the point are the
+// quotient rounded up: in every rounding mode, where it is below 2^31 and one of whole numbers, the divisor below 2^18. Nothing of this is promised, since each
+// guess is judged.
 fn guess(dividend: f64, divisor: f64) -> u32
     requires { ⌜ T (positive dividend) × T (not (isNan divisor)) ⌝ }
 {
@@ -27,7 +29,7 @@ fn guess(dividend: f64, divisor: f64) -> u32
 
 // Puts word j of a table, which is that of the divisor i = first + j. The bit place is j × width before it and (j + 1) × width behind it.
 fn put_word(image: &mut [u8], w: Writer, table: Quotients, i: u32, guess: u32) -> Writer
-    requires { ⌜ HasRoom table i (length (now image)) ⌝ }
+    requires { ⌜ CanFill table (length (now image)) × IsDivisor table i ⌝ }
     requires { ⌜ w .place ≡ (i - table .first) * table .width ⌝ }
     ensures { λ r. ⌜ r ≡ takenIn (table .width) (roundedUp (table .numerator) i) w ⌝ }
     ensures { λ r. ⌜ now (image .exit) ≡ putBytes (table .width) (roundedUp (table .numerator) i) w (now (image .entry)) ⌝ }
@@ -44,7 +46,7 @@ fn put_word(image: &mut [u8], w: Writer, table: Quotients, i: u32, guess: u32) -
 // Puts the words of a table, from bit place 0 on: numerator / i rounded up, its lowest bits, for each i from `first` on. The divisor runs beside i as a
 // double, for the guesses. The bit place is count × width at the end, and what waits then is left to `finish`.
 fn fill(image: &mut [u8], table: Quotients) -> Writer
-    requires { ⌜ IsTable table (length (now image)) ⌝ }
+    requires { ⌜ CanFill table (length (now image)) ⌝ }
     ensures { λ r. ⌜ r ≡ writerBefore (table .width) (quotients table) (table .count) ⌝ }
     ensures { λ r. ⌜ now (image .exit) ≡ bytesBefore (table .width) (quotients table) (now (image .entry)) (table .count) ⌝ }
     ensures { λ r. ⌜ r .place ≡ table .count * table .width ⌝ }

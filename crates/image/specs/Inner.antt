@@ -20,6 +20,10 @@ refusalNumber k n = firstNumber (limits k n)
 abbrev pub ownBytes : ℕ → List ℕ → List ℕ
 ownBytes k s = cond (eqb (refusalNumber k (length s)) 0) (take (imageLength k) s) []
 
--- the table whose words are quotients rounded up, by their numbers
+-- the quotient of word j, rounded up
+abbrev pub quotients : Quotients → ℕ → ℕ
+quotients q j = roundedUp (q .numerator) (q .first + j)
+
+-- the table of which they are the words, as far as its width goes
 abbrev pub layoutOf : Quotients → Layout
-layoutOf q = record { count = q .count; width = q .width; word = λ (j : ℕ). roundedUp (q .numerator) (q .first + j) % 2 ^ q .width }
+layoutOf q = record { count = q .count; width = q .width; word = λ (j : ℕ). quotients q j % 2 ^ q .width }

@@ -11,8 +11,8 @@ use lib.Dec.{leb}
 use lib.ListN.{length, take, drop, length-append, length-drop}
 use lib.Pow.{pow-pos, pow-add, shr-shr, shr-lt, shl-shr, split, high, low, field, mod-mod-pow, mod-pow-add}
 use borrow.Author.Tests.{leb-true, leb-false, le-leb, lt-leb}
-use Rattle.packing.specs.Packing.{packed, toBytes, byteCount, packedBytes}
-use Rattle.packing.specs.Writing.{stored, waitFrom, joined, takenIn, putBytes, putWriter, putLeaves, finishLeaves, bytesTaken, writerBefore, bytesBefore}
+use Rattle.packing.specs.Packing.{packed, toBytes, bytesTaken, byteCount, packedBytes}
+use Rattle.packing.specs.Writing.{stored, waitFrom, joined, takenIn, putBytes, putWriter, putLeaves, finishLeaves, writerBefore, bytesBefore}
 use Rattle.packing.specs.declared.writing.Writer.{Writer}
 use Rattle.packing.proofs.Bytes.{length-toBytes, toBytes-add, toBytes-low, toBytes-same}
 use Rattle.packing.proofs.Storing.{stored-behind}

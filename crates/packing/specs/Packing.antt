@@ -14,9 +14,13 @@ abbrev pub toBytes : ℕ → ℕ → List ℕ
 toBytes zero v = []
 toBytes (suc n) v = toBytes n (v / 256) ++ (v % 256 ∷ [])
 
+-- the bytes that p bits take
+abbrev pub bytesTaken : ℕ → ℕ
+bytesTaken p = (p + 7) / 8
+
 -- the bytes that n words of w bits take
 abbrev pub byteCount : ℕ → ℕ → ℕ
-byteCount w n = (n * w + 7) / 8
+byteCount w n = bytesTaken (n * w)
 
 -- the zero bits from the last word to the end of the last byte
 abbrev pub fillBits : ℕ → ℕ → ℕ

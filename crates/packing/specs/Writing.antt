@@ -1,11 +1,13 @@
 -- Words written into a list of bytes one behind the other, most significant bit first, by a writer that keeps the bit place of the next word (document 02, Q-4).
+-- A writer has taken `place` bits in. Eight bytes are stored for each 64 of them, and the others, place % 64, wait: they are the lowest bits of `waiting`, and what
+-- stands above them does not count.
 -- Assumes nothing.
 use Prim.Native.Nat.{ℕ, zero, suc, _+_, _-_, _*_, _/_, _%_, _^_}
 use mathlib.Core.Bool.{Bool, cond, not, _&&_, _||_}
 use mathlib.Core.List.{List, _++_}
 use lib.Dec.{leb}
 use lib.ListN.{length, take, drop}
-use Rattle.packing.specs.Packing.{toBytes}
+use Rattle.packing.specs.Packing.{toBytes, bytesTaken}
 use Rattle.packing.specs.declared.writing.Writer.{Writer}
 
 -- the most bits that are put at once
@@ -20,19 +22,20 @@ started = record { waiting = 0; place = 0 }
 abbrev pub stored : List ℕ → ℕ → ℕ → ℕ → List ℕ
 stored s a n v = take a s ++ (toBytes n v ++ drop (a + n) s)
 
--- where the bits that wait will stand when p are taken in: behind the eight bytes of each 64 bits before them
+-- the byte from which on the bits that wait will stand when p are taken in: behind eight bytes for each 64 bits before them
 abbrev pub waitFrom : ℕ → ℕ
 waitFrom p = p / 64 * 8
 
--- whether the p % 64 bits that wait and w bits more are the 64 of eight bytes
+-- whether the p % 64 bits that wait and w bits more reach the 64 of eight bytes
 abbrev pub completes : ℕ → ℕ → Bool
 completes p w = leb 64 (p % 64 + w)
 
--- the bits that wait with the word v of w bits behind them
+-- the bits that wait, with whatever stands above them, and the lowest w bits of v behind them
 abbrev pub joined : ℕ → ℕ → Writer → ℕ
 joined w v r = r .waiting * 2 ^ w + v % 2 ^ w
 
--- the writer when the word is taken in: its place grows by w
+-- the writer when the word is taken in: its place grows by w, as a number of 64 bits. Where 64 bits are complete the whole word is kept, of which only the last
+-- bits wait.
 abbrev pub takenIn : ℕ → ℕ → Writer → Writer
 takenIn w v r = record { waiting = cond (completes (r .place) w) (v % 2 ^ w) (joined w v r % 2 ^ 64); place = (r .place + w) % 2 ^ 64 }
 
@@ -40,7 +43,8 @@ takenIn w v r = record { waiting = cond (completes (r .place) w) (v % 2 ^ w) (jo
 abbrev pub putBytes : ℕ → ℕ → Writer → List ℕ → List ℕ
 putBytes w v r s = cond (completes (r .place) w) (stored s (waitFrom (r .place)) 8 (joined w v r / 2 ^ (r .place % 64 + w - 64))) s
 
--- whether a word of w bits can be put into n bytes: it is not too wide, and what is to be stored has room
+-- whether a word of w bits can be put into n bytes: it is not too wide, and the eight bytes have room, where any are to be stored; a word that completes none waits
+-- whatever the room
 abbrev pub canPut : ℕ → Writer → ℕ → Bool
 canPut n r w = leb w widestPut && (not (completes (r .place) w) || leb (waitFrom (r .place) + 8) n)
 
@@ -51,17 +55,13 @@ putWriter s r w v = cond (canPut (length s) r w) (takenIn w v r) r
 abbrev pub putLeaves : List ℕ → Writer → ℕ → ℕ → List ℕ
 putLeaves s r w v = cond (canPut (length s) r w) (putBytes w v r s) s
 
--- the bytes that p bits take
-abbrev pub bytesTaken : ℕ → ℕ
-bytesTaken p = (p + 7) / 8
-
--- the bytes at the end: those of the bits that wait, with zero bits to the byte's end, where all have room
+-- the bytes at the end: those of the bits that wait, with zero bits to the byte's end, where all that was taken in has room; else as they were
 abbrev pub finishLeaves : List ℕ → Writer → List ℕ
 finishLeaves s r =
     let n = bytesTaken (r .place % 64) in
     cond (leb (bytesTaken (r .place)) (length s)) (stored s (waitFrom (r .place)) n (r .waiting * 2 ^ (8 * n - r .place % 64))) s
 
--- words f 0, f 1, .. of w bits, put one by one: the writer before word j, and what is left by then of the bytes s
+-- words f 0, f 1, .. of w bits, put one by one, where they have room: the writer before word j, and the bytes by then, which were s at first
 abbrev pub writerBefore : ℕ → (ℕ → ℕ) → ℕ → Writer
 writerBefore w f zero = started
 writerBefore w f (suc j) = takenIn w (f j) (writerBefore w f j)

@@ -2,7 +2,8 @@
 ghost use mathlib.Core.Path.{_≡_};
 ghost use Prim.Native.Nat.{_+_, _≤_};
 ghost use lib.ListN.{length};
-ghost use Rattle.packing.specs.Writing.{started, putWriter, putLeaves, finishLeaves, bytesTaken, stored, widestPut};
+ghost use Rattle.packing.specs.Packing.{bytesTaken};
+ghost use Rattle.packing.specs.Writing.{started, putWriter, putLeaves, finishLeaves, stored, widestPut};
 
 // The most bits that are put at once.
 pub const WIDEST_PUT: u32 = 32;

@@ -12,7 +12,8 @@ use lib.Pow.{pow-mono, pow-pos}
 use lib.Dec.{eqb}
 use borrow.Author.Needs.{needs}
 use borrow.Author.Tests.{ne-eqb}
-use Rattle.packing.specs.Writing.{bytesTaken, finishLeaves, writerBefore, bytesBefore}
+use Rattle.packing.specs.Packing.{bytesTaken}
+use Rattle.packing.specs.Writing.{finishLeaves, writerBefore, bytesBefore}
 use Rattle.packing.proofs.Written.{words-finished}
 use Rattle.answers.specs.Refusal.{Outcome}
 use Rattle.answers.specs.Answer.{done}
@@ -22,9 +23,9 @@ use Rattle.tail.specs.Inner.{clearedFrom}
 use Rattle.layout.specs.Layout.{imageOf, lengthOf, romOf}
 use Rattle.layout.proofs.Rom.{rom-written}
 use Rattle.image.specs.Image.{plain}
-use Rattle.image.specs.Inner.{refusalNumber, layoutOf}
+use Rattle.image.specs.Inner.{refusalNumber, quotients, layoutOf}
 use Rattle.image.proofs.Limits.{ImageKept, limit-refuses, limit-passes, limit-kept}
-use Rattle.building.specs.Inner.{quotients, IsTable}
+use Rattle.building.specs.Inner.{CanFill}
 use Rattle.building.proofs.build.Statement.{statement}
 use Rattle.building.proofs.build.Tie as tie
 
@@ -55,8 +56,8 @@ kept c = limit-kept (c .before .before .before .args .k .0) (c .before .before .
 table : (c : tie.After-table) → c .table .result ≡ quotientsOf (c .before .before .before .before .before .args .k .0)
 table c = c .table .ensures ∙ kept (c .before .before) .numbers
 
-is-table : (k : ℕ) (s : List ℕ) → ImageKept k s → IsTable (quotientsOf k) (length s)
-is-table k s ok =
+can-fill : (k : ℕ) (s : List ℕ) → ImageKept k s → CanFill (quotientsOf k) (length s)
+can-fill k s ok =
     record {
       wide = omega (arith, ok .high);
       few = omega (arith, pow-mono (ok .high));
@@ -69,7 +70,7 @@ is-table k s ok =
     high = omega (arith, ok .high)
 
 -- the words as they stand behind the last put
-finished : (t : Quotients) (s : List ℕ) → IsTable t (length s)
+finished : (t : Quotients) (s : List ℕ) → CanFill t (length s)
     → finishLeaves (bytesBefore (t .width) (quotients t) s (t .count)) (writerBefore (t .width) (quotients t) (t .count))
     ≡ imageOf (layoutOf t) ++ drop (lengthOf (layoutOf t)) s
 finished t s ok = words-finished (t .width) (quotients t) s (t .count) (ok .wide) (omega (arith, mul-le-mul few (ok .wide))) (ok .room)
@@ -83,7 +84,7 @@ table-requires c κs = search needs
 fill-requires : tie.Need-fill-requires
 fill-requires c κs =
     let start = c .before .before .before .before .before in
-    rw (table c) (is-table (start .args .k .0) (start .args .image .now) (kept (c .before .before)))
+    rw (table c) (can-fill (start .args .k .0) (start .args .image .now) (kept (c .before .before)))
 
 finish-requires : tie.Need-finish-requires
 finish-requires c κs = search needs
@@ -108,7 +109,7 @@ returns-2 c =
     let words = finish .finish .ensures .1 ∙ ap₂ finishLeaves (fill .fill .ensures .1 .0) (fill .fill .ensures .0) in (
       ap done (sym (limit-passes k s [] 0 (limit at))),
       cleared .clear .ensures
-          ∙ ap₂ clearedFrom past (words ∙ finished t s (rw (table tabled) (is-table k s (kept at))))
+          ∙ ap₂ clearedFrom past (words ∙ finished t s (rw (table tabled) (can-fill k s (kept at))))
           ∙ ap (λ (t : Quotients). clearedFrom (lengthOf (layoutOf t)) (imageOf (layoutOf t) ++ drop (lengthOf (layoutOf t)) s)) (table tabled)
           ∙ rom-written (plain k) s (kept at .long)
           ∙ sym (ap (leaves k s) (limit-passes k s [] 0 (limit at))),

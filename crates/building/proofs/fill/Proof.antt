@@ -10,8 +10,8 @@ use lib.Ieee.{binary64, ofBits, inFloat, isNan}
 use borrow.Author.Needs.{needs}
 use borrow.Author.Tests.{le-leb}
 use Rattle.packing.specs.Writing.{writerBefore, bytesBefore}
-use Rattle.building.specs.Inner.{quotients}
-use Rattle.building.proofs.Filling.{Filled, filled-none, filled-more, filled-place, filled-length, filled-room}
+use Rattle.image.specs.Inner.{quotients}
+use Rattle.building.proofs.Filling.{Filled, filled-none, filled-more, filled-place, filled-length, filled-can}
 use Rattle.building.proofs.Floats.{add-number, whole-number, whole-positive}
 use Rattle.building.proofs.fill.Statement.{statement}
 use Rattle.building.proofs.fill.Tie as tie
@@ -53,7 +53,7 @@ put-word-requires c κs =
     let a = start .args in
     let l = c .before .before .before .loop in
     let h = l .inv .0 in (
-      filled-room (a .table) (a .image .now) (l .image) (l .w) (l .i) h (start .pre) (omega (arith, c .before .before .loop-test .taken)),
+      (filled-can (a .table) (a .image .now) (l .image) (l .w) (l .i) h (start .pre), record { from = h .from; upto = omega (arith, c .before .before .loop-test .taken) }),
       filled-place (a .table) (a .image .now) (l .image) (l .w) (l .i) h (start .pre),
     )
 

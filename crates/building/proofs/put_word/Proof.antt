@@ -2,7 +2,7 @@
 -- Assumes nothing.
 use mathlib.Core.Path.{_≡_, ap, _∙_}
 use Prim.Native.Nat.{ℕ, _+_, _-_, _*_, _%_, _^_, _≤_}
-use native.Mathlib.Nat.{mod-eq-of-lt, mul-le-mul}
+use native.Mathlib.Nat.{mod-eq-of-lt, mul-le-mul, mul-le-mul-right}
 use native.Mathlib.Omega.{arith}
 use lib.ListN.{length}
 use borrow.Author.Needs.{needs}
@@ -30,13 +30,15 @@ returns c =
     let s = a .image .now in
     let t = a .table in
     let put = c .before .before .put in
-    let ok = start .pre .0 in
+    let ok = start .pre .0 .0 in
+    let i = start .pre .0 .1 in
     let at = start .pre .1 in
-    let grows = more (a .i) (t .first) (t .width) (ok .from) in
+    let grows = more (a .i) (t .first) (t .width) (i .from) in
+    let upto : a .i + 1 - t .first ≤ t .count = omega (arith, i .from, i .upto) in
     let few : a .i + 1 - t .first ≤ 4294967296 = omega arith in
     let bits : t .numerator % 2 ^ 63 ≡ t .numerator = mod-eq-of-lt (omega (arith, ok .exact)) in
     let word = c .before .before .before .settled .ensures ∙ ap (λ (m : ℕ). roundedUp m (a .i)) bits in
-    let room : a .w .place + t .width ≤ 8 * length s = omega (arith, at, grows, ok .ends) in
+    let room : a .w .place + t .width ≤ 8 * length s = omega (arith, at, grows, mul-le-mul-right (t .width) upto, ok .room) in
     let taken = put-taken s (a .w) (t .width) (roundedUp (t .numerator) (a .i)) (ok .wide) room in
     let after : put .result ≡ takenIn (t .width) (roundedUp (t .numerator) (a .i)) (a .w) = put .ensures .0 ∙ ap (putWriter s (a .w) (t .width)) word ∙ taken .0 in (
       after,

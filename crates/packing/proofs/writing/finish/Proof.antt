@@ -8,7 +8,8 @@ use native.Mathlib.Omega.{arith}
 use lib.ListN.{length, set}
 use borrow.Author.Needs.{needs}
 use borrow.Author.Tests.{le-leb, lt-leb}
-use Rattle.packing.specs.Writing.{stored, waitFrom, bytesTaken}
+use Rattle.packing.specs.Packing.{bytesTaken}
+use Rattle.packing.specs.Writing.{stored, waitFrom}
 use Rattle.packing.proofs.Storing.{length-stored, stored-none, stored-more, rest-more, stored-top}
 use Rattle.packing.proofs.writing.finish.Statement.{statement}
 use Rattle.packing.proofs.writing.finish.Tie as tie
