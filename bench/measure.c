@@ -401,7 +401,7 @@ static void instead(uint32_t precision)
         printf("%-32s %9.2f %11.2f   %9.2f %11.2f\n", names[c], alone[c].least, alone[c].ratio, result[c].least, result[c].ratio);
 }
 
-// Beside two of the ratios stands what they may be at most, by document 02, Q-4.
+// Beside two of the ratios stands what they were to be at most when the builder was made faster.
 static void otherwise_built(void)
 {
     static const struct {

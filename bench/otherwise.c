@@ -57,8 +57,8 @@ static inline placed put_placed(uint8_t *image, placed to, uint32_t width, uint6
     return (placed){word, place};
 }
 
-// Added to 2^32 + 1 - 2^-20 the quotient leaves 20 bits behind the point, and the 32 before it are the quotient rounded up: it lies 2^-13 or more above a
-// whole number unless it is one, and no rounding mode moves it so far.
+// Added to 2^32 + 1 - 2^-20 the quotient leaves 20 bits behind the point, and the lowest 32 before it are the quotient rounded up: it lies 2^-13 or
+// more from every whole number unless it is one, and no rounding mode moves it so far.
 static inline uint64_t guessed(double dividend, double divisor)
 {
     double raised = dividend / divisor + 4294967296.99999904632568359375;

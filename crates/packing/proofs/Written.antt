@@ -12,7 +12,7 @@ use lib.ListN.{length, take, drop, length-append, length-drop}
 use lib.Pow.{pow-pos, pow-add, shr-shr, shr-lt, shl-shr, split, high, low, field, mod-mod-pow, mod-pow-add}
 use borrow.Author.Tests.{leb-true, leb-false, le-leb, lt-leb}
 use Rattle.packing.specs.Packing.{packed, toBytes, bytesTaken, byteCount, packedBytes}
-use Rattle.packing.specs.Writing.{stored, waitFrom, joined, takenIn, putBytes, putWriter, putLeaves, finishLeaves, writerBefore, bytesBefore}
+use Rattle.packing.specs.Writing.{stored, waitFrom, joined, takenIn, putBytes, canPut, putWriter, putLeaves, finishLeaves, writerBefore, bytesBefore}
 use Rattle.packing.specs.declared.writing.Writer.{Writer}
 use Rattle.packing.proofs.Bytes.{length-toBytes, toBytes-add, toBytes-low, toBytes-same}
 use Rattle.packing.proofs.Storing.{stored-behind}
@@ -101,20 +101,24 @@ module _ (s : List ℕ) (r : Writer) (w v : ℕ) where
             (ap (toBytes 8) (eight-is r w v wide long) ∙ toBytes-low 8 (joined w v r / 2 ^ over r w v)),
       )
 
--- a word that is not too wide and ends within the bytes is put
+-- a word that is not too wide and ends within the bytes can be put
+pub can-put : (n : ℕ) (r : Writer) (w : ℕ) → w ≤ 32 → r .place + w ≤ 8 * n → canPut n r w ≡ true
+can-put n r w wide room = by (leb 64 (r .place % 64 + w)) refl
+  where
+    by : (t : Bool) → leb 64 (r .place % 64 + w) ≡ t → canPut n r w ≡ true
+    by true e =
+        let there : waitFrom (r .place) + 8 ≤ n = omega (arith, leb-true 64 (r .place % 64 + w) e) in
+        rw (le-leb w 32 wide, e, le-leb (waitFrom (r .place) + 8) n there) refl
+    by false e = rw (le-leb w 32 wide, e) refl
+
+-- so it is
 pub put-taken : (s : List ℕ) (r : Writer) (w v : ℕ) → w ≤ 32 → r .place + w ≤ 8 * length s
     → (putWriter s r w v ≡ takenIn w v r) × (putLeaves s r w v ≡ putBytes w v r s)
-put-taken s r w v wide room = by (leb 64 (r .place % 64 + w)) refl
-  where
-    by : (t : Bool) → leb 64 (r .place % 64 + w) ≡ t → (putWriter s r w v ≡ takenIn w v r) × (putLeaves s r w v ≡ putBytes w v r s)
-    by true e =
-        let there : waitFrom (r .place) + 8 ≤ length s = omega (arith, leb-true 64 (r .place % 64 + w) e) in
-        rw (le-leb w 32 wide, e, le-leb (waitFrom (r .place) + 8) (length s) there) (refl, refl)
-    by false e = rw (le-leb w 32 wide, e) (refl, refl)
+put-taken s r w v wide room = rw (can-put (length s) r w wide room) (refl, refl)
 
 -- and the place grows by its width
-pub place-after : (s : List ℕ) (r : Writer) (w v : ℕ) → w ≤ 32 → r .place + w ≤ 8 * length s → r .place + w < 2 ^ 64 → putWriter s r w v .place ≡ r .place + w
-place-after s r w v wide room few = ap (λ (x : Writer). x .place) (put-taken s r w v wide room .0) ∙ mod-eq-of-lt few
+pub place-after : (s : List ℕ) (r : Writer) (w v : ℕ) → canPut (length s) r w ≡ true → r .place + w < 2 ^ 64 → putWriter s r w v .place ≡ r .place + w
+place-after s r w v can few = rw can (mod-eq-of-lt few)
 
 -- the number P is taken in: the bits that wait are its last, and the bytes of those before them are written over s
 record Holds (s now : List ℕ) (r : Writer) (P : ℕ) : Type 0 where

@@ -20,8 +20,9 @@
 --    words-right-bytes and check-passes-rom ask that these are bytes.
 --
 -- 9. While an image is built (document 02, Q-4), the bit place of the next word is one number, which starts at 0 and grows by the width at each word, for
---    any width and any words: place-starts, place-grows. Before word j it is j × w: place-before-word; each word is put so: word-is-put. Of a
---    precision it is j × w before word j and 2^k × w after the last: place-before-node, place-after-last; and what is put then is the image: puts-image.
+--    any words and any width that can be put, up to 32: place-starts, place-grows; room-to-put tells where a word can be put, and where it cannot, all stays:
+--    put-keeps. Before word j the place is j × w: place-before-word; each word is put so: word-is-put. Of a precision it is j × w before word j and 2^k × w
+--    after the last: place-before-node, place-after-last; and what is put then is the image: puts-image.
 --
 -- Which words and bytes a call reads is said by what its answer depends on (docs/DECISIONS.md, "Reading"): node-by-its-word, check-by-words,
 -- reciprocal-by-words, reciprocal-by-lower-word, word-by-its-bytes; none past the image: node-by-image, reciprocal-by-image, part-by-image,
@@ -33,6 +34,7 @@
 -- named, which of their words or bytes agree or are wrong.
 use mathlib.Core.Path.{_≡_, refl, _∙_}
 use mathlib.Core.Logic.{_↔_}
+use mathlib.Core.Bool.{true, false}
 use mathlib.Core.List.{List, _++_}
 use Prim.Native.Nat.{ℕ, suc, _+_, _-_, _*_, _/_, _%_, _^_, _≤_, _<_}
 use native.Mathlib.Omega.{arith}
@@ -45,9 +47,9 @@ use Rattle.nodes.specs.Nodes.{node, nodeOr0}
 use Rattle.nodes.proofs.Nodes.{node-first, node-last, node-above, node-below, node-falls, node-there, node-past}
 use Rattle.quotient.proofs.Laws.{reaches, least}
 use Rattle.packing.specs.Packing.{Bytes, bitAt, bitOfWord}
-use Rattle.packing.specs.Writing.{putWriter, putLeaves, finishLeaves, writerBefore, bytesBefore}
+use Rattle.packing.specs.Writing.{canPut, putWriter, putLeaves, finishLeaves, writerBefore, bytesBefore}
 use Rattle.packing.specs.declared.writing.Writer.{Writer}
-use Rattle.packing.proofs.Written.{place-after, place-before, word-put}
+use Rattle.packing.proofs.Written.{can-put, place-after, place-before, word-put}
 use Rattle.tail.specs.Tail.{zeros}
 use Rattle.packing.proofs.Words.{word-lt}
 use Rattle.packing.proofs.Bits.{bit-of-word}
@@ -230,13 +232,23 @@ module _ (k : ℕ) (p : IsPrecision k) where
   pub check-passes-rom : (s : List ℕ) → Bytes s → IsLongEnough k s → (checkOutcome k s .number ≡ 0) ↔ (s ≡ image k ++ zeros (length s - imageLength k))
   check-passes-rom s b l = joined (check-passes-words s b l) (Built.right-is-rom k s p b l)
 
--- The bit place while words f(0), f(1), .. of w bits are put one by one, for any w and any f. A put that has room makes the place grow by w.
+-- A put, by any writer r, of any word v of w bits into any buffer s. Where the word can be put, the place grows by w, as a number of 64 bits; where it is wider
+-- than 32 bits, or eight bytes are to be stored and have no room, the writer is given back and every byte stays.
+module _ (s : List ℕ) (r : Writer) (w v : ℕ) where
+  pub place-grows : canPut (length s) r w ≡ true → r .place + w < 2 ^ 64 → putWriter s r w v .place ≡ r .place + w
+  place-grows can few = place-after s r w v can few
+
+  pub put-keeps : canPut (length s) r w ≡ false → (putWriter s r w v ≡ r) × (putLeaves s r w v ≡ s)
+  put-keeps cannot = rw cannot (refl, refl)
+
+  -- a word of up to 32 bits that ends within the buffer can be put
+  pub room-to-put : w ≤ 32 → r .place + w ≤ 8 * length s → canPut (length s) r w ≡ true
+  room-to-put wide room = can-put (length s) r w wide room
+
+-- The bit place while words f(0), f(1), .. of w bits are put one by one, for any f.
 module _ (w : ℕ) (f : ℕ → ℕ) where
   pub place-starts : writerBefore w f 0 .place ≡ 0
   place-starts = refl
-
-  pub place-grows : (s : List ℕ) (r : Writer) (v : ℕ) → w ≤ 32 → r .place + w ≤ 8 * length s → r .place + w < 2 ^ 64 → putWriter s r w v .place ≡ r .place + w
-  place-grows s r v wide room few = place-after s r w v wide room few
 
   pub place-before-word : (j : ℕ) → j * w < 2 ^ 64 → writerBefore w f j .place ≡ j * w
   place-before-word j few = place-before w f j few

@@ -14,7 +14,7 @@
 //!   is turned back before any byte is read.
 //!
 //! The functions keep no pointer, have no state, call nothing outside the archive but the C library's `memset`, and do not unwind; bytes
-//! are answered as numbers. They leave the floating-point environment as it was, but for the inexact flag, which [`build`] may raise.
+//! are answered as numbers. They leave the rounding mode, and raise no flag of the floating-point environment but inexact, which [`build`] may raise.
 #![deny(missing_docs)]
 #![deny(clippy::undocumented_unsafe_blocks)]
 
