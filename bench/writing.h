@@ -1,4 +1,4 @@
-// How the C here writes words: bits wait in 64 and are stored by four bytes; and the zeros behind them.
+// How most of the C here writes words: bits wait in 64 and are stored by four bytes; and the zeros behind them.
 #ifndef WRITING_H
 #define WRITING_H
 #include <stdint.h>

@@ -18,8 +18,8 @@
  *     keeps no state, so calls on other bytes, and calls that only read, may run at once in several threads.
  *   - The bytes do not overlap the object that takes the answer.
  *   - yildegga_build may raise the inexact flag of the floating-point environment: who has made that trap, as by feenableexcept,
- *     has to mask it for the call, which else ends in the trap. No call raises another flag or changes the rounding mode: this is tested, and no proof speaks
- *     of it.
+ *     has to mask it for the call, which else ends in the trap. No call raises another flag or changes the rounding mode: this is
+ *     tested, and no proof speaks of it.
  *   - NULL lends nothing. With length 0 it is turned back like any buffer that is too short, by refusal 1 or 2 (no bytes are shown),
  *     and nothing is read or written through it, since every image has a byte: this is tested, and no proof speaks of it.
  *   - The archive holds code for x86-64 with the System V calling convention, the one of Linux. It calls memset of the C library, by

@@ -52,19 +52,19 @@ module _ (t : Quotients) (s image : List ℕ) (w : Writer) (i : ℕ) (h : Filled
   f = quotients t
 
   -- the word of i is put
-  pub filled-more : (image' : List ℕ) (w' : Writer) → i < t .first + t .count → w' ≡ takenIn (t .width) (roundedUp (t .numerator) i) w
-      → image' ≡ putBytes (t .width) (roundedUp (t .numerator) i) w image → Filled t s image' w' (i + 1)
+  pub filled-more : (image' : List ℕ) (w' : Writer) → i < t .first + t .count → w' ≡ takenIn w (t .width) (roundedUp (t .numerator) i)
+      → image' ≡ putBytes image w (t .width) (roundedUp (t .numerator) i) → Filled t s image' w' (i + 1)
   filled-more image' w' l e b =
       record {
         from = omega (arith, h .from);
         upto = omega arith;
         bytes =
-            b ∙ ap₂ (λ (r : Writer) (l : List ℕ). putBytes (t .width) (roundedUp (t .numerator) i) r l) (h .writer) (h .bytes)
-            ∙ ap (λ (n : ℕ). putBytes (t .width) (roundedUp (t .numerator) n) (writerBefore (t .width) f j) (bytesBefore (t .width) f s j)) there
+            b ∙ ap₂ (λ (r : Writer) (l : List ℕ). putBytes l r (t .width) (roundedUp (t .numerator) i)) (h .writer) (h .bytes)
+            ∙ ap (λ (n : ℕ). putBytes (bytesBefore (t .width) f s j) (writerBefore (t .width) f j) (t .width) (roundedUp (t .numerator) n)) there
             ∙ ap (bytesBefore (t .width) f s) next;
         writer =
-            e ∙ ap (takenIn (t .width) (roundedUp (t .numerator) i)) (h .writer)
-            ∙ ap (λ (n : ℕ). takenIn (t .width) (roundedUp (t .numerator) n) (writerBefore (t .width) f j)) there
+            e ∙ ap (λ (r : Writer). takenIn r (t .width) (roundedUp (t .numerator) i)) (h .writer)
+            ∙ ap (λ (n : ℕ). takenIn (writerBefore (t .width) f j) (t .width) (roundedUp (t .numerator) n)) there
             ∙ ap (writerBefore (t .width) f) next;
       }
     where

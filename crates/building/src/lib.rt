@@ -31,8 +31,8 @@ fn guess(dividend: f64, divisor: f64) -> u32
 fn put_word(image: &mut [u8], w: Writer, table: Quotients, i: u32, guess: u32) -> Writer
     requires { ⌜ CanFill table (length (now image)) × IsDivisor table i ⌝ }
     requires { ⌜ w .place ≡ (i - table .first) * table .width ⌝ }
-    ensures { λ r. ⌜ r ≡ takenIn (table .width) (roundedUp (table .numerator) i) w ⌝ }
-    ensures { λ r. ⌜ now (image .exit) ≡ putBytes (table .width) (roundedUp (table .numerator) i) w (now (image .entry)) ⌝ }
+    ensures { λ r. ⌜ r ≡ takenIn w (table .width) (roundedUp (table .numerator) i) ⌝ }
+    ensures { λ r. ⌜ now (image .exit) ≡ putBytes (now (image .entry)) w (table .width) (roundedUp (table .numerator) i) ⌝ }
     ensures { λ r. ⌜ r .place ≡ (i + 1 - table .first) * table .width ⌝ }
 {
     packing::put(

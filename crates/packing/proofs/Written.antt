@@ -67,7 +67,7 @@ module _ (r : Writer) (w v : ℕ) where
   abbrev pub eight : ℕ
   eight = r .waiting * 2 ^ (w - over) % 2 ^ 64 + v % 2 ^ w / 2 ^ over
 
-  pub eight-is : w ≤ 32 → 64 ≤ r .place % 64 + w → eight ≡ joined w v r / 2 ^ over % 2 ^ 64
+  pub eight-is : w ≤ 32 → 64 ≤ r .place % 64 + w → eight ≡ joined r w v / 2 ^ over % 2 ^ 64
   eight-is wide long =
       joined-low (r .waiting) (v % 2 ^ w / 2 ^ over) (w - over) (omega arith)
       (shr-lt (w - over) over (subst (λ (x : ℕ). v % 2 ^ w < 2 ^ x) up (mod-lt v (pow-pos w))))
@@ -98,7 +98,7 @@ module _ (s : List ℕ) (r : Writer) (w v : ℕ) where
       rw (le-leb w 32 wide, le-leb 64 (r .place % 64 + w) long, le-leb (waitFrom (r .place) + 8) (length s) room) (
         refl,
         ap (λ (l : List ℕ). take (waitFrom (r .place)) s ++ (l ++ drop (waitFrom (r .place) + 8) s))
-            (ap (toBytes 8) (eight-is r w v wide long) ∙ toBytes-low 8 (joined w v r / 2 ^ over r w v)),
+            (ap (toBytes 8) (eight-is r w v wide long) ∙ toBytes-low 8 (joined r w v / 2 ^ over r w v)),
       )
 
 -- a word that is not too wide and ends within the bytes can be put
@@ -113,7 +113,7 @@ can-put n r w wide room = by (leb 64 (r .place % 64 + w)) refl
 
 -- so it is
 pub put-taken : (s : List ℕ) (r : Writer) (w v : ℕ) → w ≤ 32 → r .place + w ≤ 8 * length s
-    → (putWriter s r w v ≡ takenIn w v r) × (putLeaves s r w v ≡ putBytes w v r s)
+    → (putWriter s r w v ≡ takenIn r w v) × (putLeaves s r w v ≡ putBytes s r w v)
 put-taken s r w v wide room = rw (can-put (length s) r w wide room) (refl, refl)
 
 -- and the place grows by its width
@@ -136,7 +136,7 @@ module _ (s now : List ℕ) (r : Writer) (P : ℕ) (h : Holds s now r P) where
   -- a word is put: the number that is taken in is followed by it
   module _ (w v : ℕ) (wide : w ≤ 32) (few : r .place + w < 2 ^ 64) where
     -- the last bits, with the word behind them
-    last : joined w v r % 2 ^ (r .place % 64 + w) ≡ (P * 2 ^ w + v % 2 ^ w) % 2 ^ (r .place % 64 + w)
+    last : joined r w v % 2 ^ (r .place % 64 + w) ≡ (P * 2 ^ w + v % 2 ^ w) % 2 ^ (r .place % 64 + w)
     last =
         take-low (r .waiting) (v % 2 ^ w) w (r .place % 64) (mod-lt v (pow-pos w))
         ∙ ap (λ (x : ℕ). x * 2 ^ w + v % 2 ^ w) (h .bits)
@@ -149,19 +149,19 @@ module _ (s now : List ℕ) (r : Writer) (P : ℕ) (h : Holds s now r P) where
     grown : (r .place + w) % 2 ^ 64 ≡ r .place + w
     grown = mod-eq-of-lt few
 
-    waits : r .place % 64 + w < 64 → Holds s (putBytes w v r now) (takenIn w v r) (P * 2 ^ w + v % 2 ^ w)
+    waits : r .place % 64 + w < 64 → Holds s (putBytes now r w v) (takenIn r w v) (P * 2 ^ w + v % 2 ^ w)
     waits short =
         let same : (r .place + w) % 64 ≡ r .place % 64 + w = omega arith in
         let stay : waitFrom (r .place + w) ≡ waitFrom (r .place) = omega arith in
         rw (lt-leb 64 (r .place % 64 + w) short, grown)
         (record {
-          bits = rw same (mod-within (joined w v r) (r .place % 64 + w) 64 (omega arith) ∙ last);
+          bits = rw same (mod-within (joined r w v) (r .place % 64 + w) 64 (omega arith) ∙ last);
           bytes =
               h .bytes
               ∙ ap₂ (λ (x y : ℕ). toBytes x y ++ drop x s) (sym stay) (sym front ∙ ap (λ (x : ℕ). (P * 2 ^ w + v % 2 ^ w) / 2 ^ x) (sym same));
         })
 
-    stores : 64 ≤ r .place % 64 + w → Holds s (putBytes w v r now) (takenIn w v r) (P * 2 ^ w + v % 2 ^ w)
+    stores : 64 ≤ r .place % 64 + w → Holds s (putBytes now r w v) (takenIn r w v) (P * 2 ^ w + v % 2 ^ w)
     stores long =
         let o : ℕ = r .place % 64 + w - 64 in
         let Q : ℕ = P * 2 ^ w + v % 2 ^ w in
@@ -176,22 +176,22 @@ module _ (s now : List ℕ) (r : Writer) (P : ℕ) (h : Holds s now r P) where
               ∙ mod-within Q o w (omega arith));
           bytes =
               rw (over, up)
-              (ap (λ (l : List ℕ). stored l (waitFrom (r .place)) 8 (joined w v r / 2 ^ o)) (h .bytes)
-              ∙ stored-behind (toBytes (waitFrom (r .place)) (P / 2 ^ (r .place % 64))) s (waitFrom (r .place)) 8 (joined w v r / 2 ^ o) (length-toBytes (waitFrom (r .place)) (P / 2 ^ (r .place % 64)))
+              (ap (λ (l : List ℕ). stored l (waitFrom (r .place)) 8 (joined r w v / 2 ^ o)) (h .bytes)
+              ∙ stored-behind (toBytes (waitFrom (r .place)) (P / 2 ^ (r .place % 64))) s (waitFrom (r .place)) 8 (joined r w v / 2 ^ o) (length-toBytes (waitFrom (r .place)) (P / 2 ^ (r .place % 64)))
               ∙ ap (λ (l : List ℕ). l ++ drop (waitFrom (r .place) + 8) s)
               (ap₂ (λ (x : ℕ) (y : List ℕ). toBytes (waitFrom (r .place)) x ++ y)
               (sym front ∙ ap (λ (x : ℕ). Q / 2 ^ x) (sym whole ∙ omega arith) ∙ sym (shr-shr Q o 64))
-              (toBytes-same 8 (joined w v r / 2 ^ o) (Q / 2 ^ o)
-              (sym (field (joined w v r) 64 o)
-              ∙ ap (λ (x : ℕ). x / 2 ^ o) (ap (λ (x : ℕ). joined w v r % 2 ^ x) whole ∙ last ∙ ap (λ (x : ℕ). Q % 2 ^ x) (sym whole))
+              (toBytes-same 8 (joined r w v / 2 ^ o) (Q / 2 ^ o)
+              (sym (field (joined r w v) 64 o)
+              ∙ ap (λ (x : ℕ). x / 2 ^ o) (ap (λ (x : ℕ). joined r w v % 2 ^ x) whole ∙ last ∙ ap (λ (x : ℕ). Q % 2 ^ x) (sym whole))
               ∙ field Q 64 o))
               ∙ sym (toBytes-add (waitFrom (r .place)) 8 (Q / 2 ^ o))));
         })
 
-    put-holds : Holds s (putBytes w v r now) (takenIn w v r) (P * 2 ^ w + v % 2 ^ w)
+    put-holds : Holds s (putBytes now r w v) (takenIn r w v) (P * 2 ^ w + v % 2 ^ w)
     put-holds = by (leb 64 (r .place % 64 + w)) refl
       where
-        by : (t : Bool) → leb 64 (r .place % 64 + w) ≡ t → Holds s (putBytes w v r now) (takenIn w v r) (P * 2 ^ w + v % 2 ^ w)
+        by : (t : Bool) → leb 64 (r .place % 64 + w) ≡ t → Holds s (putBytes now r w v) (takenIn r w v) (P * 2 ^ w + v % 2 ^ w)
         by true e = stores (leb-true 64 (r .place % 64 + w) e)
         by false e = waits (leb-false 64 (r .place % 64 + w) e)
 

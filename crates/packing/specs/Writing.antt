@@ -31,17 +31,17 @@ abbrev pub completes : ℕ → ℕ → Bool
 completes p w = leb 64 (p % 64 + w)
 
 -- the bits that wait, with whatever stands above them, and the lowest w bits of v behind them
-abbrev pub joined : ℕ → ℕ → Writer → ℕ
-joined w v r = r .waiting * 2 ^ w + v % 2 ^ w
+abbrev pub joined : Writer → ℕ → ℕ → ℕ
+joined r w v = r .waiting * 2 ^ w + v % 2 ^ w
 
 -- the writer when the word is taken in: its place grows by w, as a number of 64 bits. Where 64 bits are complete the whole word is kept, of which only the last
 -- bits wait.
-abbrev pub takenIn : ℕ → ℕ → Writer → Writer
-takenIn w v r = record { waiting = cond (completes (r .place) w) (v % 2 ^ w) (joined w v r % 2 ^ 64); place = (r .place + w) % 2 ^ 64 }
+abbrev pub takenIn : Writer → ℕ → ℕ → Writer
+takenIn r w v = record { waiting = cond (completes (r .place) w) (v % 2 ^ w) (joined r w v % 2 ^ 64); place = (r .place + w) % 2 ^ 64 }
 
 -- and the bytes: where 64 bits are complete they are stored, and those behind them wait
-abbrev pub putBytes : ℕ → ℕ → Writer → List ℕ → List ℕ
-putBytes w v r s = cond (completes (r .place) w) (stored s (waitFrom (r .place)) 8 (joined w v r / 2 ^ (r .place % 64 + w - 64))) s
+abbrev pub putBytes : List ℕ → Writer → ℕ → ℕ → List ℕ
+putBytes s r w v = cond (completes (r .place) w) (stored s (waitFrom (r .place)) 8 (joined r w v / 2 ^ (r .place % 64 + w - 64))) s
 
 -- whether a word of w bits can be put into n bytes: it is not too wide, and the eight bytes have room, where any are to be stored; a word that completes none waits
 -- whatever the room
@@ -50,10 +50,10 @@ canPut n r w = leb w widestPut && (not (completes (r .place) w) || leb (waitFrom
 
 -- the writer and the bytes behind a put, on all inputs
 abbrev pub putWriter : List ℕ → Writer → ℕ → ℕ → Writer
-putWriter s r w v = cond (canPut (length s) r w) (takenIn w v r) r
+putWriter s r w v = cond (canPut (length s) r w) (takenIn r w v) r
 
 abbrev pub putLeaves : List ℕ → Writer → ℕ → ℕ → List ℕ
-putLeaves s r w v = cond (canPut (length s) r w) (putBytes w v r s) s
+putLeaves s r w v = cond (canPut (length s) r w) (putBytes s r w v) s
 
 -- the bytes at the end: those of the bits that wait, with zero bits to the byte's end, where all that was taken in has room; else as they were
 abbrev pub finishLeaves : List ℕ → Writer → List ℕ
@@ -64,8 +64,8 @@ finishLeaves s r =
 -- words f 0, f 1, .. of w bits, put one by one, where they have room: the writer before word j, and the bytes by then, which were s at first
 abbrev pub writerBefore : ℕ → (ℕ → ℕ) → ℕ → Writer
 writerBefore w f zero = started
-writerBefore w f (suc j) = takenIn w (f j) (writerBefore w f j)
+writerBefore w f (suc j) = takenIn (writerBefore w f j) w (f j)
 
 abbrev pub bytesBefore : ℕ → (ℕ → ℕ) → List ℕ → ℕ → List ℕ
 bytesBefore w f s zero = s
-bytesBefore w f s (suc j) = putBytes w (f j) (writerBefore w f j) (bytesBefore w f s j)
+bytesBefore w f s (suc j) = putBytes (bytesBefore w f s j) (writerBefore w f j) w (f j)

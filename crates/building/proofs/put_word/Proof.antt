@@ -40,7 +40,7 @@ returns c =
     let word = c .before .before .before .settled .ensures ∙ ap (λ (m : ℕ). roundedUp m (a .i)) bits in
     let room : a .w .place + t .width ≤ 8 * length s = omega (arith, at, grows, mul-le-mul-right (t .width) upto, ok .room) in
     let taken = put-taken s (a .w) (t .width) (roundedUp (t .numerator) (a .i)) (ok .wide) room in
-    let after : put .result ≡ takenIn (t .width) (roundedUp (t .numerator) (a .i)) (a .w) = put .ensures .0 ∙ ap (putWriter s (a .w) (t .width)) word ∙ taken .0 in (
+    let after : put .result ≡ takenIn (a .w) (t .width) (roundedUp (t .numerator) (a .i)) = put .ensures .0 ∙ ap (putWriter s (a .w) (t .width)) word ∙ taken .0 in (
       after,
       (
         put .ensures .1 .0 ∙ ap (putLeaves s (a .w) (t .width)) word ∙ taken .1,
