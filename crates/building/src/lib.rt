@@ -18,8 +18,8 @@ use packing::Writer;
 use precision::Precision;
 
 // A guess at dividend / divisor rounded up. Added to 2^32 + 1 - 2^-20 the quotient leaves 20 bits behind the point, and the lowest 32 before the point are the
-// quotient rounded up: in every rounding mode, where it is below 2^31 and one of whole numbers, the divisor below 2^18. Nothing of this is promised, since each
-// guess is judged.
+// quotient rounded up: in every rounding mode, for a quotient below 2^31 of two whole numbers that doubles hold, the divisor below 2^18. Nothing of this is
+// promised, since each guess is judged.
 fn guess(dividend: f64, divisor: f64) -> u32
     requires { ⌜ T (positive dividend) × T (not (isNan divisor)) ⌝ }
 {

@@ -24,6 +24,6 @@ ownBytes k s = cond (eqb (refusalNumber k (length s)) 0) (take (imageLength k) s
 abbrev pub quotients : Quotients → ℕ → ℕ
 quotients q j = roundedUp (q .numerator) (q .first + j)
 
--- the table of which they are the words, as far as its width goes
+-- the table whose words are their lowest bits
 abbrev pub layoutOf : Quotients → Layout
 layoutOf q = record { count = q .count; width = q .width; word = λ (j : ℕ). quotients q j % 2 ^ q .width }

@@ -1,4 +1,4 @@
-// A quotient rounded up to a whole number, and a test of one by a product alone.
+// A quotient rounded up to a whole number, a test of one by a product alone, and the quotient by way of a guess.
 ghost use mathlib.Core.Path.{_≡_};
 ghost use Rattle.quotient.specs.Quotient.{roundedUp};
 ghost use Rattle.quotient.specs.Inner.{numeratorBits, roundsUp};

@@ -20,9 +20,10 @@
 --    words-right-bytes and check-passes-rom ask that these are bytes.
 --
 -- 9. While an image is built (document 02, Q-4), the bit place of the next word is one number, which starts at 0 and grows by the width at each word, for
---    any words and any width that can be put, up to 32: place-starts, place-grows; room-to-put tells where a word can be put, and where it cannot, all stays:
---    put-keeps. Before word j the place is j × w: place-before-word; each word is put so: word-is-put. Of a precision it is j × w before word j and 2^k × w
---    after the last: place-before-node, place-after-last; and what is put then is the image: puts-image.
+--    any words and any width that can be put, up to 32: place-starts, place-grows; a word that has room can be put, room-to-put, and where one cannot be put, all
+--    stays: put-keeps. Before word j the place is j × w, while that is below 2^64: place-before-word; each word of up to 32 bits that has room is put so:
+--    word-is-put. Of a precision it is j × w before word j and 2^k × w after the last: place-before-node, place-after-last; and what is put then is the image:
+--    puts-image.
 --
 -- Which words and bytes a call reads is said by what its answer depends on (docs/DECISIONS.md, "Reading"): node-by-its-word, check-by-words,
 -- reciprocal-by-words, reciprocal-by-lower-word, word-by-its-bytes; none past the image: node-by-image, reciprocal-by-image, part-by-image,
@@ -31,7 +32,8 @@
 --
 -- Each theorem assumes no more than ranges of its numbers: that k is a precision or from 1 on, that n is from 1 to 63, or at most or at least
 -- 2k + 3, that X is normalised, that a buffer is long enough, that its elements are bytes; and, where two buffers are compared or a wrong word is
--- named, which of their words or bytes agree or are wrong.
+-- named, which of their words or bytes agree or are wrong; of puts, that a width is at most 32, that a place is below 2^64, that a word has room, or that it can
+-- or cannot be put.
 use mathlib.Core.Path.{_≡_, refl, _∙_}
 use mathlib.Core.Logic.{_↔_}
 use mathlib.Core.Bool.{true, false}
@@ -232,8 +234,8 @@ module _ (k : ℕ) (p : IsPrecision k) where
   pub check-passes-rom : (s : List ℕ) → Bytes s → IsLongEnough k s → (checkOutcome k s .number ≡ 0) ↔ (s ≡ image k ++ zeros (length s - imageLength k))
   check-passes-rom s b l = joined (check-passes-words s b l) (Built.right-is-rom k s p b l)
 
--- A put, by any writer r, of any word v of w bits into any buffer s. Where the word can be put, the place grows by w, as a number of 64 bits; where it is wider
--- than 32 bits, or eight bytes are to be stored and have no room, the writer is given back and every byte stays.
+-- A put, by any writer r, of any word v of w bits into any buffer s. Where the word can be put, the place grows by w, while it stays below 2^64; where the word is
+-- wider than 32 bits, or eight bytes are to be stored and have no room, the writer is given back and every byte stays.
 module _ (s : List ℕ) (r : Writer) (w v : ℕ) where
   pub place-grows : canPut (length s) r w ≡ true → r .place + w < 2 ^ 64 → putWriter s r w v .place ≡ r .place + w
   place-grows can few = place-after s r w v can few
