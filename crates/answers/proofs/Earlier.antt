@@ -7,13 +7,17 @@ use Prim.Native.Nat.{ℕ}
 use lib.Dec.{T, eqb, eqb→eq}
 use Rattle.bools.proofs.Bools.{both}
 use Rattle.answers.specs.Refusal.{Refusal, Outcome, outcome, turned_back, some_applies}
-use Rattle.answers.specs.Inner.{first_number, limited}
+use Rattle.answers.specs.Inner.{first_number}
 use Rattle.answers.proofs.Order.{apart}
 
 -- each refusal of the list has a number other than 0 and place 0
 abbrev pub is_earlier : List Refusal → Bool
 is_earlier [] = true
 is_earlier (r ∷ rs) = not (eqb r.number 0) && (eqb r.place 0 && is_earlier rs)
+
+-- the answer of a refusal of number n at place 0
+abbrev pub limited : ℕ → Outcome
+limited n = record { number = n; place = 0; value = 0 }
 
 refuses-of : (r : Refusal) (m : ℕ) (o : Outcome) (b : Bool) → r.place ≡ 0 → ((m ≡ 0 → ⊥) → o ≡ limited m) → (cond b r.number m ≡ 0 → ⊥) → cond b (turned_back r) o ≡ limited (cond b r.number m)
 refuses-of r m o true p rest h = rw p

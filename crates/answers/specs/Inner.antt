@@ -1,13 +1,9 @@
 -- What only inner promises cite: refusals by their number alone.
 -- Assumes nothing.
 use Rattle.std.specs.Prelude.{ℕ, cond, List, [], ◌∷◌}
-use Rattle.answers.specs.Refusal.{Refusal, Outcome}
+use Rattle.answers.specs.Refusal.{Refusal}
 
 -- the number of the first refusal of the list that applies, and 0 where none does
 abbrev pub first_number : List Refusal → ℕ
 first_number [] = 0
 first_number (r ∷ rs) = cond r.applies r.number (first_number rs)
-
--- the answer of a refusal of number n at place 0
-abbrev pub limited : ℕ → Outcome
-limited n = record { number = n; place = 0; value = 0 }

@@ -1,9 +1,7 @@
 -- A bound table in a walk, and the laws by which the calls meet their contracts: what a function does with its arguments is read off its MIR, in its own proof, and what it promises
 -- follows here, for any number of further arguments and any type of the result.
--- A format and a number own facts alone. So of what a call is passed the image is carried, and the rest is made where it is asked for.
+-- A precision and a number own facts alone. So of what a call is passed the image is carried, and the rest is made where it is asked for.
 -- Assumes nothing.
-use mathlib.Core.Path.{sym, subst}
-use lib.Dec.{T}
 use lib.ListN.{length}
 use base.Fml.{Fml, Share, ftrue, fsep, fat}
 use prog.Model.{Model}
@@ -21,11 +19,9 @@ use denote.Struct.Declared.{Declared}
 use denote.Struct.Laws as LL
 use denote.Struct.Rest.{all_own, own_open, own_shut}
 use denote.Triple.Entry.{on_entry}
-use Rattle.format.specs.declared.Form.{Form}
-use Rattle.format.specs.declared.Form.TheVariants.{Plain, Full}
-use Rattle.format.specs.declared.Format.{Format}
-use Rattle.format.specs.contracts.Format as P
-use Rattle.format.proofs.Format.TheLaws as P'
+use Rattle.precision.specs.declared.Precision.{Precision}
+use Rattle.precision.specs.contracts.Precision as P
+use Rattle.precision.proofs.Precision.TheLaws as P'
 use Rattle.binding.specs.Bound.{bound}
 use Rattle.binding.specs.declared.BoundTable.{BoundTable}
 use Rattle.binding.specs.contracts.BoundTable as T
@@ -36,14 +32,14 @@ pub use Prim.Native.Nat.{ℕ, zero, suc, ◌+◌}
 pub use mathlib.Core.List.{List, [], ◌∷◌}
 pub use seplogic.Ra.Ura.{Ura}
 pub use mir.Syntax.{named, erased, Name, Width, w32, w64, place, copy, Opd as Operand}
-pub use mir.Val.{Val, vint, has_ty}
+pub use mir.Val.{Val, vint}
 pub use base.Logic.{SProp, ent, sep, ex, emp, guard, id⊢, via, mono_l, mono_r, fst∗, emp∗, comm∗}
 pub use prog.Wp.{Heap, Calls, WpFn, Env as PlaceEnv, spot_of}
 pub use contract.Running.{GhostRules, Running, given_of, tables}
 pub use types.Kit.{Given, Item, nth, ‵, raw, ◌⊛◌, some, given, later, ◌$◌, ◌∵◌, !, qed, by, move, keep, drop, use0, use1, split, join, pick, learn, check, show, fsplit, fjoin, frame, await, updating, now as at_once, done}
 pub use types.Part.{whole, sub, look_in, agg}
 pub use types.Run.{Opds, look, init, forget, stop, fld, from, load, of_opd, and_then, no_more, assigns, calls, land, returns, enter, alloc1, alloc0, params1, pass1, pass0, free1, free0}
-pub use denote.Laws.{Is, Ises, Are, Tells, shows, Lawful, Lawfuls, Spells, Tellss, Makess, valss, Typed, all_Typed, owns_make}
+pub use denote.Laws.{Is, Ises, Are, shows, Lawful, Lawfuls, Spells, Tellss, Makess, valss, Typed, all_Typed, owns_make}
 pub use denote.Ref.{Bor, MutBor}
 pub use denote.Triple.Spec.{triple_of}
 pub use denote.Triple.Table.{entered, cited, framed}
@@ -67,57 +63,14 @@ Slice κs = ShrSlice (named 0) κs.0 u8
 abbrev pub slice-mach : Bor (List ℕ) → Val
 slice-mach s = slice_val s.ref_ptr (length s.now)
 
-abbrev IsFormat : Format → Type 0
-IsFormat k = Is P.the_row k (P'.lowered k ∷ [])
-
--- the machine values of a format and of a table by the laws of their fields are those that are written out for each form
-format-val : (k : Format) → LL.val P.the_type P'.the_laws k ≡ P'.lowered k
-format-val k = by k.form
-  where
-    by : (f : Form) → LL.val P.the_type P'.the_laws (record { precision = k.precision; form = f }) ≡ P'.lowered (record { precision = k.precision; form = f })
-    by Plain = refl
-    by Full = refl
-
-table-val : (κs : Lfts 1) (d : BoundTable) → LL.val (D κs) (L κs) d ≡ T'.lowered d
-table-val κs d = by d.format.form
-  where
-    with-form : Form → BoundTable
-    with-form f = record { format = record { precision = d.format.precision; form = f }; image = d.image }
-
-    by : (f : Form) → LL.val (D κs) (L κs) (with-form f) ≡ T'.lowered (with-form f)
-    by Plain = refl
-    by Full = refl
-
-table-tells : (κs : Lfts 1) → Tells (Row κs) (Is (Row κs)) (λ d. T'.lowered d ∷ [])
-table-tells κs d vs p = LL.tells (D κs) (L κs) d vs p ∙ ap (λ (v : Val). v ∷ []) (table-val κs d)
-
--- they are of their types
-pub format-has : (k : Format) → T (has_ty P'.mir (P'.lowered k))
-format-has k = by k.form
-  where
-    by : (f : Form) → T (has_ty P'.mir (P'.lowered (record { precision = k.precision; form = f })))
-    by Plain = tt
-    by Full = tt
-
-pub table-has : (d : BoundTable) → T (has_ty (T'.mir (named 0)) (T'.lowered d))
-table-has d = by d.format.form
-  where
-    by : (f : Form) → T (has_ty (T'.mir (named 0)) (T'.lowered (record { format = record { precision = d.format.precision; form = f }; image = d.image })))
-    by Plain = tt
-    by Full = tt
-
--- whatever machine values a format has, they are its own
-is-format : (k : Format) (vs : List Val) → Is P.the_row k vs → IsFormat k
-is-format k vs p = subst (Is P.the_row k) ((P'.lowers).val_is k vs p) p
-
-by-laws : (k : Format) → IsFormat k → Is P.the_row k (LL.val P.the_type P'.the_laws k ∷ [])
-by-laws k p = subst (λ (v : Val). Is P.the_row k (v ∷ [])) (sym (format-val k)) p
+abbrev IsPrecision : Precision → Type 0
+IsPrecision k = Is P.the_row k (P'.lowered k ∷ [])
 
 abbrev slots : List Width → List (Slot 1)
 slots [] = []
 slots (w ∷ ws) = plain (λ _. UInt w) ∷ slots ws
 
--- a function's parameters: a table and numbers, or a format, an image and numbers
+-- a function's parameters: a table and numbers, or a precision, an image and numbers
 abbrev on_table : List Width → Signature
 on_table ws = record { lifetimes = 1; outlives = []; params = plain Row ∷ slots ws; result = plain (λ _. P.the_row) }
 
@@ -187,8 +140,8 @@ module _ {M : Type 1} {𝓤 : Ura M} (𝓛 : Logic 𝓤) (𝓜 : Model 𝓤 𝓛
   abbrev pub Checked : RattleType → (Val → SProp 𝓤) → Val → SProp 𝓤
   Checked R X u = H.⇛ (guard 𝓤 (Typed R.mir (u ∷ [])) (X u))
 
-  -- what a function is entered with: a format, an image and numbers; or a table, of the machine value u, and numbers
-  abbrev Parts : (ws : List Width) → Format → Bor (List ℕ) → Denots (Nums κs ws) → SProp 𝓤
+  -- what a function is entered with: a precision, an image and numbers; or a table, of the machine value u, and numbers
+  abbrev Parts : (ws : List Width) → Precision → Bor (List ℕ) → Denots (Nums κs ws) → SProp 𝓤
   Parts ws k s e = on_entry 𝓛 (on_parts ws) κs qs (k, (s, e)) (P'.lowered k ∷ [], (slice-mach s ∷ [], nums κs ws e))
 
   abbrev Whole : (ws : List Width) → BoundTable → Val → Denots (Nums κs ws) → SProp 𝓤
@@ -223,40 +176,34 @@ module _ {M : Type 1} {𝓤 : Ura M} (𝓛 : Logic 𝓤) (𝓜 : Model 𝓤 𝓛
       qed 𝓛 (later (some (λ (r : R.Denot). (raw tok ⊛ ‵ (R.own_val r (u ∷ []))) ⊛ some (λ (ws : Nones n). ‵ (trues n) ⊛ raw (fact 𝓤 (r ≡ x))))) ∷ raw F ∷ []) ∵ updating ! $ await ! tt $ at_once ! $ pick ! (λ r. split ! $ move ! (1 ∷ []) $
       pick ! (λ _. split ! $ drop ! $ heard ! (r ≡ x) (λ e. split ! $ move ! (1 ∷ []) $ peeks ! R (Is R) (shows 𝓛 R) r (u ∷ []) (λ p. check ! (typed r u p) $ move ! (1 ∷ 0 ∷ []) $ join ! $ by ! (next r u e)))))))
 
-  -- an image gives `Parts`, with any format and numbers
-  parts : (ws : List Width) (k : Format) (s : Bor (List ℕ)) (e : Denots (Nums κs ws)) → IsFormat k → Numbers κs ws e → ent 𝓤 (sep 𝓤 tok ⟦ (Slice κs).own_val s (slice-mach s ∷ []) ⟧) (sep 𝓤 (Parts ws k s e) (emp 𝓤))
+  -- an image gives `Parts`, with any precision and numbers
+  parts : (ws : List Width) (k : Precision) (s : Bor (List ℕ)) (e : Denots (Nums κs ws)) → IsPrecision k → Numbers κs ws e → ent 𝓤 (sep 𝓤 tok ⟦ (Slice κs).own_val s (slice-mach s ∷ []) ⟧) (sep 𝓤 (Parts ws k s e) (emp 𝓤))
   parts ws k s e pk pe =
       qed 𝓛 (raw tok ∷ ‵ ((Slice κs).own_val s (slice-mach s ∷ [])) ∷ []) ∵ use0 𝓛 (‵ (owns (Nums κs ws) e (nums κs ws e))) (have-numbers ws e pe) $ move ! (2 ∷ 0 ∷ []) $ fjoin ! $
       owned ! P.the_row (Is P.the_row) (LL.makes P.the_type P'.the_plain 𝓛) k _ pk $ fjoin ! $ move ! (1 ∷ 0 ∷ []) $ join ! $ frame ! $ done !
 
-  -- a function on a format, an image and numbers, at their own machine values
-  pub at-parts : (ws : List Width) (run : Fun 𝓤) (Q : Val → SProp 𝓤) (k : Format) (s : Bor (List ℕ)) (e : Denots (Nums κs ws)) (vss : Valss (P.the_row ∷ Slice κs ∷ Nums κs ws))
-      → (IsFormat k → Numbers κs ws e → Typed (mirs (P.the_row ∷ Slice κs ∷ Nums κs ws)) (P'.lowered k ∷ slice-mach s ∷ row κs ws e) → ent 𝓤 (sep 𝓤 tok ⟦ (Slice κs).own_val s (slice-mach s ∷ []) ⟧) (run (P'.lowered k ∷ slice-mach s ∷ row κs ws e) Q))
+  -- a function on a precision, an image and numbers, at their own machine values
+  pub at-parts : (ws : List Width) (run : Fun 𝓤) (Q : Val → SProp 𝓤) (k : Precision) (s : Bor (List ℕ)) (e : Denots (Nums κs ws)) (vss : Valss (P.the_row ∷ Slice κs ∷ Nums κs ws))
+      → (IsPrecision k → Numbers κs ws e → Typed (mirs (P.the_row ∷ Slice κs ∷ Nums κs ws)) (P'.lowered k ∷ slice-mach s ∷ row κs ws e) → ent 𝓤 (sep 𝓤 tok ⟦ (Slice κs).own_val s (slice-mach s ∷ []) ⟧) (run (P'.lowered k ∷ slice-mach s ∷ row κs ws e) Q))
       → ent 𝓤 (sep 𝓤 (on_entry 𝓛 (on_parts ws) κs qs (k, (s, e)) vss) (emp 𝓤)) (run (flat (P.the_row ∷ Slice κs ∷ Nums κs ws) vss) Q)
   at-parts ws run Q k s e vss go = via 𝓤 _ (fst∗ 𝓤 _ (emp 𝓤))
-      (said 𝓛 (on_parts ws) κs qs ((λ k. P'.lowered k ∷ []), (shr_slice_vals, spells κs ws)) ((P'.lowers).val_is, (shr_slice_Tells (named 0) κs.0 u8, tell κs ws)) (k, (s, e))
+      (said 𝓛 (on_parts ws) κs qs (LL.vals P.the_type P'.the_laws, (shr_slice_vals, spells κs ws)) (LL.tells P.the_type P'.the_laws, (shr_slice_Tells (named 0) κs.0 u8, tell κs ws)) (k, (s, e))
       (λ us. run (flat (P.the_row ∷ Slice κs ∷ Nums κs ws) us) Q) vss (λ are. via 𝓤 _
       (qed 𝓛 (raw tok ∷ ‵ (owns (P.the_row ∷ Slice κs ∷ Nums κs ws) (k, (s, e)) (P'.lowered k ∷ [], (slice-mach s ∷ [], nums κs ws e))) ∷ []) ∵ move ! (1 ∷ []) $ fsplit ! $ drop ! $ fsplit ! $ keep ! (2 ∷ 0 ∷ []) $ done !)
       (go are.0 are.1.1 (all_Typed 𝓛 (P.the_row ∷ Slice κs ∷ Nums κs ws) (LL.lawful P.the_type P'.the_laws 𝓛, (shr_slice_Lawful 𝓛 (named 0) κs.0 u8, lawful ws)) (k, (s, e)) _ are))))
 
-  -- a table is owned by its parts, at its own machine value
-  shut : (k : Format) (s : Bor (List ℕ)) → ent 𝓤 ⟦ all_own (D κs).parts (L κs) (k, (s, tt)) ⟧ ⟦ (Row κs).own_val (record { format = k; image = s }) (T'.lowered (record { format = k; image = s }) ∷ []) ⟧
-  shut k s =
-      subst (λ (v : Val). ent 𝓤 ⟦ all_own (D κs).parts (L κs) (k, (s, tt)) ⟧ ⟦ (Row κs).own_val (record { format = k; image = s }) (v ∷ []) ⟧) (table-val κs (record { format = k; image = s }))
-      (own_shut 𝓛 (D κs) (L κs) (k, (s, tt)))
-
-  -- a function that makes the table of the format k and the image s, and returns it
-  pub binds : (run : Fun 𝓤) (k₀ : Format) (s : Bor (List ℕ)) (vss : Valss (P.the_row ∷ Slice κs ∷ [])) (k : Format) → (IsFormat k₀ → IsFormat k) → (y : BoundTable) → record { format = k; image = s } ≡ y
-      → (Typed (mirs (P.the_row ∷ Slice κs ∷ [])) (P'.lowered k₀ ∷ slice-mach s ∷ []) → (Q : Val → SProp 𝓤) → ent 𝓤 (Q (T'.lowered (record { format = k; image = s }))) (run (P'.lowered k₀ ∷ slice-mach s ∷ []) Q))
+  -- a function that makes the table of the precision k and the image s, and returns it
+  pub binds : (run : Fun 𝓤) (k₀ : Precision) (s : Bor (List ℕ)) (vss : Valss (P.the_row ∷ Slice κs ∷ [])) (k : Precision) → (IsPrecision k₀ → IsPrecision k) → (y : BoundTable) → record { k = k; image = s } ≡ y
+      → (Typed (mirs (P.the_row ∷ Slice κs ∷ [])) (P'.lowered k₀ ∷ slice-mach s ∷ []) → (Q : Val → SProp 𝓤) → ent 𝓤 (Q (T'.lowered (record { k = k; image = s }))) (run (P'.lowered k₀ ∷ slice-mach s ∷ []) Q))
       → ent 𝓤 (sep 𝓤 (on_entry 𝓛 (on_parts []) κs qs (k₀, (s, tt)) vss) (emp 𝓤)) (run (flat (P.the_row ∷ Slice κs ∷ []) vss) (Gave (Row κs) 2 y))
   binds run k₀ s vss k pk y same walk = at-parts [] run _ k₀ s tt vss (λ p _ t. via 𝓤 _
-      (qed 𝓛 (raw tok ∷ ‵ ((Slice κs).own_val s (slice-mach s ∷ [])) ∷ []) ∵ nothing ! $ move ! (2 ∷ 0 ∷ []) $ fjoin ! $ owned ! P.the_row (Is P.the_row) (LL.makes P.the_type P'.the_plain 𝓛) k _ (by-laws k (pk p)) $ fjoin ! $
-      use1 𝓛 (‵ ((Row κs).own_val (record { format = k; image = s }) (T'.lowered (record { format = k; image = s }) ∷ []))) (shut k s) $ move ! (1 ∷ 0 ∷ []) $ join ! $ use0 𝓛 (raw (emp 𝓤)) (id⊢ 𝓤 (emp 𝓤)) $
+      (qed 𝓛 (raw tok ∷ ‵ ((Slice κs).own_val s (slice-mach s ∷ [])) ∷ []) ∵ nothing ! $ move ! (2 ∷ 0 ∷ []) $ fjoin ! $ owned ! P.the_row (Is P.the_row) (LL.makes P.the_type P'.the_plain 𝓛) k _ (pk p) $ fjoin ! $
+      use1 𝓛 (‵ ((Row κs).own_val (record { k = k; image = s }) (T'.lowered (record { k = k; image = s }) ∷ []))) (own_shut 𝓛 (D κs) (L κs) (k, (s, tt))) $ move ! (1 ∷ 0 ∷ []) $ join ! $ use0 𝓛 (raw (emp 𝓤)) (id⊢ 𝓤 (emp 𝓤)) $
       move ! (1 ∷ 0 ∷ []) $ by ! (gives (Row κs) 2 y _ _ (emp 𝓤) same))
       (walk t _))
 
-  -- where b binds any two: the format k and the image s are bound, and what follows has the table
-  pub held : (b : Name) → ((k : Format) (s : Bor (List ℕ)) → ent 𝓤 (sep 𝓤 (Parts [] k s tt) (emp 𝓤)) (C b (P'.lowered k ∷ slice-mach s ∷ []) (Gave (Row κs) 2 (bound k s)))) → (k : Format) (s : Bor (List ℕ)) → IsFormat k
+  -- where b binds any two: the precision k and the image s are bound, and what follows has the table
+  pub held : (b : Name) → ((k : Precision) (s : Bor (List ℕ)) → ent 𝓤 (sep 𝓤 (Parts [] k s tt) (emp 𝓤)) (C b (P'.lowered k ∷ slice-mach s ∷ []) (Gave (Row κs) 2 (bound k s)))) → (k : Precision) (s : Bor (List ℕ)) → IsPrecision k
       → (X : Val → SProp 𝓤) → ((d : BoundTable) (u : Val) → d ≡ bound k s → ent 𝓤 (sep 𝓤 tok ⟦ (Row κs).own_val d (u ∷ []) ⟧) (X u)) → ent 𝓤 (sep 𝓤 tok ⟦ (Slice κs).own_val s (slice-mach s ∷ []) ⟧) (C b (P'.lowered k ∷ slice-mach s ∷ []) (Checked (Local κs) X))
   held b met k s pk X next = via 𝓤 _ (parts [] k s tt pk tt) (then (Parts [] k s tt) (emp 𝓤) b _ (Row κs) (Local κs) 2 (bound k s) (met k s)
       (λ d u p. (LL.lawful (T.the_type (record { mir = erased; lft = κs.0 })) (T'.the_laws (record { mir = erased; lft = κs.0 })) 𝓛).typed d (u ∷ []) p) X (λ d u q. via 𝓤 _ (fst∗ 𝓤 _ (emp 𝓤)) (next d u q)))
@@ -269,29 +216,29 @@ module _ {M : Type 1} {𝓤 : Ura M} (𝓛 : Logic 𝓤) (𝓜 : Model 𝓤 𝓛
       use0 𝓛 (‵ (owns (Nums κs ws) e (nums κs ws e))) (have-numbers ws e pe) $ move ! (1 ∷ 0 ∷ []) $ fjoin ! $ move ! (2 ∷ 0 ∷ []) $ join ! $ done !)
       (then (Whole ws d u e) ⟦ (Row κs).own_val d (u ∷ []) ⟧ f _ R R (1 + length ws) x met (λ r v p. l.typed r (v ∷ []) p) X next)
 
-  -- a call f whose promise is `found` of a format, an image and numbers: that of a function which makes it with the format k and the numbers e is `found` of what it was passed, where the two are equal
-  module _ (ws : List Width) (R : RattleType) (l : Lawful 𝓛 R) (found : Format → Bor (List ℕ) → Denots (Nums κs ws) → R.Denot) (f : Name) (run : Fun 𝓤) where
+  -- a call f whose promise is `found` of a precision, an image and numbers: that of a function which makes it with the precision k and the numbers e is `found` of what it was passed, where the two are equal
+  module _ (ws : List Width) (R : RattleType) (l : Lawful 𝓛 R) (found : Precision → Bor (List ℕ) → Denots (Nums κs ws) → R.Denot) (f : Name) (run : Fun 𝓤) where
     -- it takes the table d apart, and f is called on the parts
-    pub thin : ((k : Format) (s : Bor (List ℕ)) (e : Denots (Nums κs ws)) → ent 𝓤 (sep 𝓤 (Parts ws k s e) (emp 𝓤)) (C f (P'.lowered k ∷ slice-mach s ∷ row κs ws e) (Gave R (2 + length ws) (found k s e))))
-        → (d : BoundTable) (e₀ : Denots (Nums κs ws)) (vss : Valss (Row κs ∷ Nums κs ws)) (k : Format) (e : Denots (Nums κs ws)) → (IsFormat d.format → IsFormat k) → (Numbers κs ws e₀ → Numbers κs ws e)
-        → found k d.image e ≡ found d.format d.image e₀
+    pub thin : ((k : Precision) (s : Bor (List ℕ)) (e : Denots (Nums κs ws)) → ent 𝓤 (sep 𝓤 (Parts ws k s e) (emp 𝓤)) (C f (P'.lowered k ∷ slice-mach s ∷ row κs ws e) (Gave R (2 + length ws) (found k s e))))
+        → (d : BoundTable) (e₀ : Denots (Nums κs ws)) (vss : Valss (Row κs ∷ Nums κs ws)) (k : Precision) (e : Denots (Nums κs ws)) → (IsPrecision d.k → IsPrecision k) → (Numbers κs ws e₀ → Numbers κs ws e)
+        → found k d.image e ≡ found d.k d.image e₀
         → (Typed (mirs (Row κs ∷ Nums κs ws)) (T'.lowered d ∷ row κs ws e₀) → (Q : Val → SProp 𝓤) → ent 𝓤 (C f (P'.lowered k ∷ slice-mach d.image ∷ row κs ws e) (Checked R Q)) (run (T'.lowered d ∷ row κs ws e₀) Q))
-        → ent 𝓤 (sep 𝓤 (on_entry 𝓛 (on_table ws) κs qs (d, e₀) vss) (emp 𝓤)) (run (flat (Row κs ∷ Nums κs ws) vss) (Gave R (1 + length ws) (found d.format d.image e₀)))
+        → ent 𝓤 (sep 𝓤 (on_entry 𝓛 (on_table ws) κs qs (d, e₀) vss) (emp 𝓤)) (run (flat (Row κs ∷ Nums κs ws) vss) (Gave R (1 + length ws) (found d.k d.image e₀)))
     thin met d e₀ vss k e pk pe same walk = via 𝓤 _ (fst∗ 𝓤 _ (emp 𝓤))
-        (said 𝓛 (on_table ws) κs qs ((λ d. T'.lowered d ∷ []), spells κs ws) (table-tells κs, tell κs ws) (d, e₀) (λ us. run (flat (Row κs ∷ Nums κs ws) us) (Gave R (1 + length ws) _)) vss (λ are. via 𝓤 _ (via 𝓤 _
+        (said 𝓛 (on_table ws) κs qs (LL.vals (D κs) (L κs), spells κs ws) (LL.tells (D κs) (L κs), tell κs ws) (d, e₀) (λ us. run (flat (Row κs ∷ Nums κs ws) us) (Gave R (1 + length ws) _)) vss (λ are. via 𝓤 _ (via 𝓤 _
         (qed 𝓛 (raw tok ∷ ‵ (owns (Row κs ∷ Nums κs ws) (d, e₀) (T'.lowered d ∷ [], nums κs ws e₀)) ∷ []) ∵ move ! (1 ∷ []) $ fsplit ! $ move ! (1 ∷ []) $ drop ! $
-        use1 𝓛 (given _ (‵ (all_own (D κs).parts (L κs) (d.format, (d.image, tt))))) (own_open 𝓛 (D κs) (L κs) (d.format, (d.image, tt)) (T'.lowered d)) $ learn ! (λ _. fsplit ! $
-        facts ! P.the_row (Is P.the_row) (shows 𝓛 P.the_row) d.format _ (λ p. fsplit ! $ keep ! (2 ∷ 0 ∷ []) $ by ! (parts ws k d.image e (pk (is-format d.format _ p)) (pe are.1)))))
+        use1 𝓛 (given _ (‵ (all_own (D κs).parts (L κs) (d.k, (d.image, tt))))) (own_open 𝓛 (D κs) (L κs) (d.k, (d.image, tt)) (T'.lowered d)) $ learn ! (λ _. fsplit ! $
+        facts ! P.the_row (Is P.the_row) (shows 𝓛 P.the_row) d.k _ (λ p. fsplit ! $ keep ! (2 ∷ 0 ∷ []) $ by ! (parts ws k d.image e (pk p) (pe are.1)))))
         (then (Parts ws k d.image e) (emp 𝓤) f _ R R (2 + length ws) _ (met k d.image e) (λ r u p. l.typed r (u ∷ []) p) _ (λ r u q. gives R (1 + length ws) _ r u (emp 𝓤) (q ∙ same))))
         (walk (all_Typed 𝓛 (Row κs ∷ Nums κs ws) (LL.lawful (D κs) (L κs) 𝓛, lawful ws) (d, e₀) _ are) _)))
 
     -- it binds the image s by b, and f is called on the table
-    pub through : (b : Name) → ((k : Format) (s : Bor (List ℕ)) → ent 𝓤 (sep 𝓤 (Parts [] k s tt) (emp 𝓤)) (C b (P'.lowered k ∷ slice-mach s ∷ []) (Gave (Row κs) 2 (bound k s))))
-        → ((d : BoundTable) (u : Val) (e : Denots (Nums κs ws)) → ent 𝓤 (sep 𝓤 (Whole ws d u e) (emp 𝓤)) (C f (u ∷ row κs ws e) (Gave R (1 + length ws) (found d.format d.image e))))
-        → (k₀ : Format) (s : Bor (List ℕ)) (e₀ : Denots (Nums κs ws)) (vss : Valss (P.the_row ∷ Slice κs ∷ Nums κs ws)) (k : Format) (e : Denots (Nums κs ws)) → (IsFormat k₀ → IsFormat k) → (Numbers κs ws e₀ → Numbers κs ws e)
-        → found (bound k s).format (bound k s).image e ≡ found k s e → found k s e ≡ found k₀ s e₀
+    pub through : (b : Name) → ((k : Precision) (s : Bor (List ℕ)) → ent 𝓤 (sep 𝓤 (Parts [] k s tt) (emp 𝓤)) (C b (P'.lowered k ∷ slice-mach s ∷ []) (Gave (Row κs) 2 (bound k s))))
+        → ((d : BoundTable) (u : Val) (e : Denots (Nums κs ws)) → ent 𝓤 (sep 𝓤 (Whole ws d u e) (emp 𝓤)) (C f (u ∷ row κs ws e) (Gave R (1 + length ws) (found d.k d.image e))))
+        → (k₀ : Precision) (s : Bor (List ℕ)) (e₀ : Denots (Nums κs ws)) (vss : Valss (P.the_row ∷ Slice κs ∷ Nums κs ws)) (k : Precision) (e : Denots (Nums κs ws)) → (IsPrecision k₀ → IsPrecision k) → (Numbers κs ws e₀ → Numbers κs ws e)
+        → found (bound k s).k (bound k s).image e ≡ found k s e → found k s e ≡ found k₀ s e₀
         → (Typed (mirs (P.the_row ∷ Slice κs ∷ Nums κs ws)) (P'.lowered k₀ ∷ slice-mach s ∷ row κs ws e₀) → (Q : Val → SProp 𝓤)
         → ent 𝓤 (C b (P'.lowered k ∷ slice-mach s ∷ []) (Checked (Local κs) (λ u. C f (u ∷ row κs ws e) (Checked R Q)))) (run (P'.lowered k₀ ∷ slice-mach s ∷ row κs ws e₀) Q))
         → ent 𝓤 (sep 𝓤 (on_entry 𝓛 (on_parts ws) κs qs (k₀, (s, e₀)) vss) (emp 𝓤)) (run (flat (P.the_row ∷ Slice κs ∷ Nums κs ws) vss) (Gave R (2 + length ws) (found k₀ s e₀)))
     through b met-b met k₀ s e₀ vss k e pk pe kept same walk = at-parts ws run _ k₀ s e₀ vss (λ p pe₀ t. via 𝓤 _ (held b met-b k s (pk p) _ (λ d u q.
-        asks ws R l f d u e _ (met d u e) (pe pe₀) _ (λ r v q'. gives R (2 + length ws) _ r v ⟦ (Row κs).own_val d (u ∷ []) ⟧ (q' ∙ ap (λ d'. found d'.format d'.image e) q ∙ kept ∙ same)))) (walk t _))
+        asks ws R l f d u e _ (met d u e) (pe pe₀) _ (λ r v q'. gives R (2 + length ws) _ r v ⟦ (Row κs).own_val d (u ∷ []) ⟧ (q' ∙ ap (λ d'. found d'.k d'.image e) q ∙ kept ∙ same)))) (walk t _))

@@ -3,7 +3,6 @@ ghost use Rattle.std.specs.Prelude.{◌≡◌};
 ghost use Rattle.bound_table.specs.Asked.{asked};
 
 use answers::{NodeRead, ReciprocalGiven};
-use format::Format;
 use libc::STDOUT_FILENO;
 use precision::Precision;
 
@@ -16,10 +15,10 @@ struct Answers {
 }
 
 // Binds the image once, and asks the table for the reciprocals of x and y, of n fraction bits, and for node j.
-fn ask(format: Format, image: &[u8], n: u32, x: u64, y: u64, j: u32) -> Answers
-    ensures { result ≡ asked format image.now n x y j }
+fn ask(k: Precision, image: &[u8], n: u32, x: u64, y: u64, j: u32) -> Answers
+    ensures { result ≡ asked k image.now n x y j }
 {
-    let table = binding::bind(format, image);
+    let table = binding::bind(k, image);
     let first = binding::reciprocal(table, n, x);
     let second = binding::reciprocal(table, n, y);
     let node = binding::node(table, j);
@@ -42,7 +41,7 @@ fn line(number: u32, place: u64, value: u64) {
 
 // The operands 1 1/4 and 1 3/4, of 7 fraction bits, and node 3 by the image as one of precision 2.
 fn show(image: &[u8]) {
-    let answers = ask(Format::plain(Precision(2)), image, 7, 160, 224, 3);
+    let answers = ask(Precision(2), image, 7, 160, 224, 3);
     let first = answers.first;
     let second = answers.second;
     let node = answers.node;
@@ -53,7 +52,7 @@ fn show(image: &[u8]) {
 
 fn main() {
     let mut image = [0u8; 3];
-    building::build(Format::plain(Precision(2)), &mut image);
+    building::build(Precision(2), &mut image);
     show(&image);
     show(&image[..2]);
     image[0] = 0;

@@ -1,4 +1,4 @@
-// Building the image of a table in a lent buffer, with zeros to its end.
+// Building the image of a precision in a lent buffer, with zeros to its end.
 ghost use Rattle.std.specs.Prelude.{◌≡◌, not, ◌+◌, ◌-◌, ◌*◌, T, length};
 ghost use Rattle.std.specs.Float.Ieee.{is_nan};
 ghost use Rattle.std.specs.Float.Ieee.Positive.{positive};
@@ -10,9 +10,9 @@ ghost use Rattle.image.specs.Inner.{quotients};
 ghost use Rattle.building.specs.Inner.{CanFill, IsDivisor};
 
 use answers::Done;
-use format::Format;
 use nodes::Quotients;
 use packing::Writer;
+use precision::Precision;
 
 // A guess at dividend / divisor rounded up. Added to 2^32 + 1 - 2^-20 the quotient leaves 20 bits behind the point, and the lowest 32 before the point are the
 // quotient rounded up: in every rounding mode, for a quotient below 2^31 of two whole numbers that doubles hold, the divisor below 2^18. Nothing of this is
@@ -61,12 +61,12 @@ fn fill(image: &mut [u8], table: Quotients) -> Writer
     w
 }
 
-// Writes the image of a format at the front of the buffer, and zeros behind it to the end; on a refusal every byte stays as found.
-pub fn build(format: Format, image: &mut [u8]) -> Done
-    ensures value { result ≡ done (build_outcome format image.old) }
-    ensures image_after { image.new ≡ build_leaves format image.old }
+// Writes the image of precision k at the front of the buffer, and zeros behind it to the end; on a refusal every byte stays as found.
+pub fn build(k: Precision, image: &mut [u8]) -> Done
+    ensures value { result ≡ done (build_outcome k.0 image.old) }
+    ensures image_after { image.new ≡ build_leaves k.0 image.old }
 {
-    let number = image::refusal_number(format, image.len());
+    let number = image::refusal_number(k, image.len());
     if number != 0 {
         return Done {
             number,
@@ -74,7 +74,7 @@ pub fn build(format: Format, image: &mut [u8]) -> Done
             value: 0,
         };
     }
-    let w = fill(image, nodes::table(format));
+    let w = fill(image, nodes::table(k));
     let past = packing::finish(image, w);
     tail::clear(image, past as usize);
     Done {

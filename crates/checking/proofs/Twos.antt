@@ -1,4 +1,4 @@
--- Two words in one reading, or one, and what the test by a product says of each.
+-- Two words in one reading, and what the test by a product says of each.
 -- Assumes nothing.
 use mathlib.Core.Path.{◌≡◌, sym, ap, ◌∙◌}
 use mathlib.Core.Bool.{Bool, not}
@@ -12,7 +12,7 @@ use Rattle.nodes.specs.declared.Quotients.{Quotients}
 use Rattle.packing.specs.Packing.{Bytes, word_at}
 use Rattle.packing.specs.Inner.{field_read}
 use Rattle.packing.proofs.Words.{word_lt, words-high, words-low}
-use Rattle.packing.proofs.Reading.{field-there, read-there}
+use Rattle.packing.proofs.Reading.{field-there}
 use Rattle.layout.specs.Layout.{is_wrong}
 use Rattle.image.specs.Inner.{layout_of}
 use Rattle.checking.specs.Inner.{AreWords}
@@ -31,10 +31,6 @@ module _ {t : Quotients} (p : AreWords t) (s : List ℕ) where
 
     pub second-of : field_read s (j * t.width) (2 * t.width) % 2 ^ t.width ≡ word_at t.width s (j + 1)
     second-of = ap (λ (x : ℕ). x % 2 ^ t.width) (field-there s (j * t.width) (2 * t.width) p.two) ∙ words-low t.width s j bytes p.one
-
-  -- a word that is read alone
-  pub alone_of : (j : ℕ) → field_read s (j * t.width) t.width ≡ word_at t.width s j
-  alone_of j = read-there t.width s j (omega (arith, p.two))
 
   -- v, the test by a product of what word j stands for, says whether the word is wrong
   module _ (j : ℕ) (h : j < t.count) {v : Bool} {word value : ℕ} (is : word ≡ word_at t.width s j) (d : value ≡ decode_under t.lead j word) (e : v ≡ rounds_up (numerator_bits t.numerator) (t.first + j) value) where

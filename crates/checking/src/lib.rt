@@ -7,11 +7,11 @@ ghost use Rattle.image.specs.Inner.{layout_of};
 ghost use Rattle.checking.specs.Inner.{AreWords};
 
 use answers::Done;
-use format::Format;
 use nodes::Quotients;
+use precision::Precision;
 
-// The lowest word of a table that is wrong in the image, and the number of words where none is. Every word up to there is read, two in one reading, and a
-// last one by itself where their number is odd.
+// The lowest word of a table that is wrong in the image, and the number of words where none is. Every word up to there is read, two in one reading: there
+// is an even number of them.
 fn first_wrong(image: &[u8], table: Quotients) -> u32
     requires { AreWords table }
     ensures { result ≡ first_wrong (layout_of table) image.now }
@@ -21,10 +21,9 @@ fn first_wrong(image: &[u8], table: Quotients) -> u32
     let numerator = table.numerator;
     let first = table.first;
     let lead = table.lead;
-    let paired = count / 2 * 2;
     let mut j: u32 = 0;
     let mut bit: u64 = 0;
-    while j < paired {
+    while j < count {
         let both = packing::field(image, bit, 2 * width);
         let even = nodes::decoded(lead, j, bits::high(both, width) as u32).0;
         if !quotient::rounds_up(numerator, first + j, even as u32) {
@@ -37,21 +36,15 @@ fn first_wrong(image: &[u8], table: Quotients) -> u32
         j += 2;
         bit += 2 * (width as u64);
     }
-    if j < count {
-        let last = nodes::decoded(lead, j, packing::field(image, bit, width) as u32).0;
-        if !quotient::rounds_up(numerator, first + j, last as u32) {
-            return j;
-        }
-    }
     count
 }
 
 // Whether every word of the image is the construction's and nothing but zeros stands behind the last one, to the buffer's end. Where a word is wrong,
 // the place is the lowest node of a wrong word; where the words are right and a bit behind them is one, it is the lowest byte with such a bit.
-pub fn check(format: Format, image: &[u8]) -> Done
-    ensures { result ≡ done (check_outcome format image.now) }
+pub fn check(k: Precision, image: &[u8]) -> Done
+    ensures { result ≡ done (check_outcome k.0 image.now) }
 {
-    let number = image::refusal_number(format, image.len());
+    let number = image::refusal_number(k, image.len());
     if number != 0 {
         return Done {
             number,
@@ -59,8 +52,8 @@ pub fn check(format: Format, image: &[u8]) -> Done
             value: 0,
         };
     }
-    let table = nodes::table(format);
-    let place = first_wrong(image::own_bytes(format, image), table);
+    let table = nodes::table(k);
+    let place = first_wrong(image::own_bytes(k, image), table);
     if place < table.count {
         return Done {
             number: 6,

@@ -1,36 +1,20 @@
--- The tables of the formats: their words have their width, and plain ones fill whole bytes. The words that the code makes and judges are the table's.
+-- The table of a precision: its words have their width, and fill whole bytes.
 -- Assumes nothing.
-use mathlib.Core.Path.{◌≡◌, refl, ap, fun_ext}
+use mathlib.Core.Path.{◌≡◌, refl}
 use Prim.Native.Nat.{ℕ, zero, suc, ◌+◌, ◌*◌, ◌/◌, ◌^◌, ◌≤◌}
-use native.Mathlib.Nat.{not-suc-le-zero, pow-suc}
+use native.Mathlib.Nat.{not-suc-le-zero, pow-suc, mod-lt}
 use native.Mathlib.Omega.{arith}
-use Rattle.precision.specs.Precision as precisions
-use Rattle.format.specs.Format.{precision_of, plain_of, word_count, word_width}
-use Rattle.format.specs.declared.Format.{Format}
-use Rattle.format.proofs.Laws.{width-least}
-use Rattle.nodes.specs.Inner.{quotients_of}
-use Rattle.nodes.proofs.Forms.{stored-lt, stored_low}
-use Rattle.layout.specs.Layout.{Layout}
+use lib.Pow.{pow_pos}
+use Rattle.precision.specs.Precision.{word_width, image_length}
+use Rattle.nodes.specs.Nodes.{node}
 use Rattle.layout.proofs.Laws.{Fits, Whole}
-use Rattle.image.specs.Image.{table_of}
-use Rattle.image.specs.Inner.{layout_of}
+use Rattle.image.specs.Image.{plain}
 
 -- a stored word has the width of a word
-pub table_fits : (F : Format) → Fits (table_of F)
-table_fits F =
-    record {
-      one = omega (arith, width-least F.form (precision_of F));
-      words = λ j h. stored-lt F.form (precision_of F) j;
-    }
+pub plain_fits : (k : ℕ) → Fits (plain k)
+plain_fits k = record { one = omega arith; words = λ j h. mod-lt (node k j) (pow_pos (word_width k)) }
 
--- the lowest bits of the quotients are the words
-pub own-layout : (F : Format) → layout_of (quotients_of F) ≡ table_of F
-own-layout F = ap with_words (fun_ext (stored_low F.form (precision_of F)))
-  where
-    with_words : (ℕ → ℕ) → Layout
-    with_words f = record { count = word_count F; width = word_width F; word = f }
-
--- an eighth of the bits of plain words is a whole number, for k from 1
+-- an eighth of its bits is a whole number, for k from 1
 pub eighths : (k : ℕ) → 1 ≤ k → 8 * (2 ^ k * (2 * k + 2) / 8) ≡ 2 ^ k * (2 * k + 2)
 eighths zero h = absurd (not-suc-le-zero h)
 eighths (suc zero) h = refl
@@ -40,11 +24,11 @@ eighths (suc (suc q)) h =
     let e : n * (2 * suc (suc q) + 2) ≡ 8 * (2 ^ q * (q + 3)) = rw eight (omega arith) in
     omega (arith, e)
 
--- so they take whole bytes
+-- so the words take whole bytes
 module _ (k : ℕ) (one : 1 ≤ k) where
-  pub whole-bytes : Whole (table_of (plain_of k))
+  pub whole-bytes : Whole (plain k)
   whole-bytes = omega (arith, eighths k one)
 
   -- as many as document 01 says
-  pub eighth-of-bits : precisions.image_length k ≡ 2 ^ k * (2 * k + 2) / 8
+  pub eighth-of-bits : image_length k ≡ 2 ^ k * (2 * k + 2) / 8
   eighth-of-bits = omega (arith, eighths k one)

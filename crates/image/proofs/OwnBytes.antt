@@ -5,31 +5,30 @@ use mathlib.Core.List.{List}
 use Prim.Native.Nat.{ℕ, ◌<◌}
 use native.Mathlib.Omega.{arith}
 use lib.ListN.{length, take, length-take}
-use Rattle.format.specs.Format.{word_count, image_length}
-use Rattle.format.specs.declared.Format.{Format}
+use Rattle.precision.specs.Precision.{word_count, image_length}
 use Rattle.packing.specs.Packing.{Bytes}
 use Rattle.packing.proofs.Bytes.{bytes_take}
 use Rattle.layout.specs.Layout.{first_wrong}
 use Rattle.layout.proofs.Laws as layouts
-use Rattle.image.specs.Image.{table_of, word_of}
+use Rattle.image.specs.Image.{plain, word_of}
 use Rattle.image.specs.Inner.{own_bytes}
-use Rattle.image.proofs.Laws.{table_fits}
+use Rattle.image.proofs.Laws.{plain_fits}
 use Rattle.image.proofs.Limits.{ImageKept, limit-none}
 
-module _ (F : Format) (s : List ℕ) (kept : ImageKept F s) where
-  pub own-taken : own_bytes F s ≡ take (image_length F) s
-  own-taken = rw (limit-none F s kept.low kept.high kept.long)
+module _ (k : ℕ) (s : List ℕ) (kept : ImageKept k s) where
+  pub own-taken : own_bytes k s ≡ take (image_length k) s
+  own-taken = rw (limit-none k s kept.low kept.high kept.long)
 
-  pub own-length : length (own_bytes F s) ≡ image_length F
-  own-length = ap length own-taken ∙ length-take (image_length F) s ∙ omega (arith, kept.long)
+  pub own-length : length (own_bytes k s) ≡ image_length k
+  own-length = ap length own-taken ∙ length-take (image_length k) s ∙ omega (arith, kept.long)
 
   -- they are bytes where the buffer's are
-  pub own-bytes : Bytes s → Bytes (own_bytes F s)
-  own-bytes h = rw own-taken (bytes_take (image_length F) s h)
+  pub own-bytes : Bytes s → Bytes (own_bytes k s)
+  own-bytes h = rw own-taken (bytes_take (image_length k) s h)
 
   -- a word is the same, and so is the lowest wrong one
-  pub own-word : (j : ℕ) → j < word_count F → word_of F (own_bytes F s) j ≡ word_of F s j
-  own-word j h = ap (λ (u : List ℕ). word_of F u j) own-taken ∙ layouts.own-word (table_of F) (table_fits F) s j h
+  pub own-word : (j : ℕ) → j < word_count k → word_of k (own_bytes k s) j ≡ word_of k s j
+  own-word j h = ap (λ (u : List ℕ). word_of k u j) own-taken ∙ layouts.own-word (plain k) (plain_fits k) s j h
 
-  pub own-wrong : first_wrong (table_of F) (own_bytes F s) ≡ first_wrong (table_of F) s
-  own-wrong = ap (first_wrong (table_of F)) own-taken ∙ layouts.own-wrong (table_of F) (table_fits F) s
+  pub own-wrong : first_wrong (plain k) (own_bytes k s) ≡ first_wrong (plain k) s
+  own-wrong = ap (first_wrong (plain k)) own-taken ∙ layouts.own-wrong (plain k) (plain_fits k) s

@@ -1,21 +1,20 @@
 -- What only inner promises cite: the limits by one number, the image's own bytes, and a table whose words are quotients.
 -- Assumes nothing.
 use Rattle.std.specs.Prelude.{ℕ, ◌+◌, ◌%◌, ◌^◌, cond, List, [], eqb, length, take}
-use Rattle.format.specs.Format.{image_length}
-use Rattle.format.specs.declared.Format.{Format}
+use Rattle.precision.specs.Precision.{image_length}
 use Rattle.answers.specs.Inner.{first_number}
 use Rattle.layout.specs.Layout.{Layout}
 use Rattle.quotient.specs.Quotient.{rounded_up}
 use Rattle.nodes.specs.declared.Quotients.{Quotients}
 use Rattle.image.specs.Refusals.{limits}
 
--- the number of the first of refusals 1 and 2 that applies to a format and a buffer of n bytes, 0 where neither does
-abbrev pub refusal_number : Format → ℕ → ℕ
-refusal_number F n = first_number (limits F n)
+-- the number of the first of refusals 1 and 2 that applies to k and a buffer of n bytes, 0 where neither does
+abbrev pub refusal_number : ℕ → ℕ → ℕ
+refusal_number k n = first_number (limits k n)
 
 -- the image's own bytes, the front of the buffer; none where 1 or 2 applies
-abbrev pub own_bytes : Format → List ℕ → List ℕ
-own_bytes F s = cond (eqb (refusal_number F (length s)) 0) (take (image_length F) s) []
+abbrev pub own_bytes : ℕ → List ℕ → List ℕ
+own_bytes k s = cond (eqb (refusal_number k (length s)) 0) (take (image_length k) s) []
 
 -- the quotient of word j, rounded up
 abbrev pub quotients : Quotients → ℕ → ℕ

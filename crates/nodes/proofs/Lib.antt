@@ -1,4 +1,3 @@
-pub mod Forms
 pub mod Laws
 pub mod Powers
 pub mod Nodes

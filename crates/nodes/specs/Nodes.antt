@@ -1,10 +1,8 @@
 -- The nodes, their words and how a word is decoded (document 01, "Construction of the nodes" and "The image";
--- document 002, Algorithm 1; document 02, Q-7).
+-- document 002, Algorithm 1).
 -- Assumes nothing.
 use Rattle.std.specs.Prelude.{ℕ, ◌+◌, ◌*◌, ◌%◌, ◌^◌, cond, ◌&&◌, leb, eqb}
 use Rattle.precision.specs.Precision.{word_width, last_node, in_range}
-use Rattle.format.specs.declared.Form.{Form}
-use Rattle.format.specs.declared.Form.TheVariants.{Plain, Full}
 use Rattle.quotient.specs.Quotient.{rounded_up}
 
 -- what is divided to give a node
@@ -19,7 +17,7 @@ node k j = rounded_up (numerator k) (2 ^ k + j)
 abbrev pub leading_one : ℕ → ℕ
 leading_one k = 2 ^ word_width k
 
--- the plain word that is stored for node j: c(j) modulo 2^(2k+2)
+-- the word that is stored for node j: c(j) modulo 2^(2k+2)
 abbrev pub stored_word : ℕ → ℕ → ℕ
 stored_word k j = node k j % leading_one k
 
@@ -28,19 +26,9 @@ stored_word k j = node k j % leading_one k
 abbrev pub decode_under : ℕ → ℕ → ℕ → ℕ
 decode_under lead j word = cond (eqb j 0 && eqb word 0) (2 * lead) (lead + word)
 
--- the value of node j by its plain word; the last node has none, and its value is implied whatever word is given: 2^(2k+2)
+-- the value of node j by its word; the last node has no word, and its value is implied whatever word is given: 2^(2k+2)
 abbrev pub decode : ℕ → ℕ → ℕ → ℕ
 decode k j word = cond (eqb j (last_node k)) (leading_one k) (decode_under (leading_one k) j word)
-
--- the word that is stored for node j in a form: the plain one, or c(j) itself
-abbrev pub stored_in : Form → ℕ → ℕ → ℕ
-stored_in Plain k j = stored_word k j
-stored_in Full k j = node k j
-
--- the value of node j by its word in a form: a full word is the value
-abbrev pub decode_in : Form → ℕ → ℕ → ℕ → ℕ
-decode_in Plain k j word = decode k j word
-decode_in Full k j word = word
 
 -- c(j) where k is a precision and j is from 0 to 2^k; elsewhere 0, which no node is
 abbrev pub node_or_0 : ℕ → ℕ → ℕ

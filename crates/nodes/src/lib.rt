@@ -1,18 +1,16 @@
 // The nodes of a table: their values, the numbers by which their words are made and judged, and what a word stands for.
 mod eight;
 
-ghost use Rattle.std.specs.Prelude.{◌≡◌, ◌^◌, ◌≤◌};
-ghost use Rattle.format.specs.Format.{plain_of, full_of};
+ghost use Rattle.std.specs.Prelude.{◌≡◌};
 ghost use Rattle.nodes.specs.Nodes.{node_or_0, decode_under};
-ghost use Rattle.nodes.specs.Inner.{quotients_of, quotients_or_0};
+ghost use Rattle.nodes.specs.Inner.{quotients_or_0};
 
 pub use eight::{NODES_8, node_8};
-use format::{Form, Format};
 use precision::Precision;
 use units::TableUnits;
 
 // A table of words in the numbers by which code makes and judges them: `count` words of `width` bits, word j being numerator / (first + j)
-// rounded up, modulo 2^width. Decoding puts the leading one `lead` back; it is 0 where words keep it.
+// rounded up, modulo 2^width. Decoding puts the leading one `lead` back.
 #[derive(Drop)]
 pub struct Quotients {
     pub count: u32,
@@ -22,41 +20,12 @@ pub struct Quotients {
     pub lead: u32,
 }
 
-// The numbers of plain words, of which there are `words`.
-fn plain_table(k: u32, words: u32) -> Quotients
-    requires { (k ≤ 12) × (words ≡ 2 ^ k) }
-    ensures { result ≡ quotients_of (plain_of k) }
+// The numbers of the table of precision k, all 0 where k is no precision.
+pub fn table(k: Precision) -> Quotients
+    ensures { result ≡ quotients_or_0 k.0 }
 {
-    let width = 2 * k + 2;
-    Quotients {
-        count: words,
-        width,
-        numerator: bits::power(3 * k + 3),
-        first: words,
-        lead: 1 << width,
-    }
-}
-
-// The numbers of full words, of which there is one more, for the last node.
-fn full_table(k: u32, words: u32) -> Quotients
-    requires { (k ≤ 12) × (words ≡ 2 ^ k) }
-    ensures { result ≡ quotients_of (full_of k) }
-{
-    Quotients {
-        count: words + 1,
-        width: 2 * k + 4,
-        numerator: bits::power(3 * k + 3),
-        first: words,
-        lead: 0,
-    }
-}
-
-// The numbers of the table of a format, all 0 where its precision is none.
-pub fn table(format: Format) -> Quotients
-    ensures { result ≡ quotients_or_0 format }
-{
-    let words = format.precision.word_count();
-    if words == 0 {
+    let count = k.word_count();
+    if count == 0 {
         return Quotients {
             count: 0,
             width: 0,
@@ -65,11 +34,13 @@ pub fn table(format: Format) -> Quotients
             lead: 0,
         };
     }
-    let k = format.precision.0;
-    let form = format.form;
-    match form {
-        Form::Plain => plain_table(k, words),
-        Form::Full => full_table(k, words),
+    let width = 2 * k.0 + 2;
+    Quotients {
+        count,
+        width,
+        numerator: bits::power(3 * k.0 + 3),
+        first: count,
+        lead: 1 << width,
     }
 }
 
@@ -77,14 +48,14 @@ pub fn table(format: Format) -> Quotients
 pub fn value(k: Precision, j: u32) -> TableUnits
     ensures { result.0 ≡ node_or_0 k.0 j }
 {
-    let count = k.word_count();
-    if count == 0 {
+    let t = table(k);
+    if t.count == 0 {
         return TableUnits(0);
     }
-    if count < j {
+    if t.count < j {
         return TableUnits(0);
     }
-    TableUnits(quotient::rounded_up(bits::power(3 * k.0 + 3), count + j))
+    TableUnits(quotient::rounded_up(t.numerator, t.first + j))
 }
 
 // What a word at node j stands for under a leading one; a zero word at node 0 means twice that. Whether the value is the

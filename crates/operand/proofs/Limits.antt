@@ -5,8 +5,7 @@ use mathlib.Core.List.{List, [], ◌∷◌}
 use Prim.Native.Nat.{ℕ, ◌+◌, ◌^◌, ◌≤◌, ◌<◌}
 use borrow.Author.Tests.{not-false}
 use Rattle.answers.specs.Refusal.{Refusal, outcome}
-use Rattle.answers.specs.Inner.{limited}
-use Rattle.answers.proofs.Earlier.{earlier-refuses, earlier-passes, earlier-none}
+use Rattle.answers.proofs.Earlier.{limited, earlier-refuses, earlier-passes, earlier-none}
 use Rattle.operand.specs.Operand.{is_fraction_count, is_normalised}
 use Rattle.operand.specs.Refusals.{fraction_refusal, operand_refusal}
 use Rattle.operand.specs.Inner.{operand_number}

@@ -2,31 +2,31 @@
 // the call beneath it does.
 ghost use Rattle.std.specs.Prelude.{◌≡◌};
 ghost use Rattle.answers.specs.Answer.{done, node_read, reciprocal_given, part};
-ghost use Rattle.format.specs.Format.{format_of, length_or_0};
+ghost use Rattle.precision.specs.Precision.{length_or_0};
 ghost use Rattle.nodes.specs.Nodes.{node_or_0};
 ghost use Rattle.image.specs.Calls.{build_outcome, build_leaves, check_outcome, node_outcome, shown_from, shown_count};
 ghost use Rattle.interpolation.specs.Calls.{reciprocal_outcome};
 
 use answers::{Done, NodeRead, Part, ReciprocalGiven};
-use format::FormatNumbers;
+use precision::Precision;
 use units::TableUnits;
 
 // The bytes of the image of precision k, 0 where k is no precision.
 #[unsafe(no_mangle)]
-pub extern "C" fn yildegga_image_length(numbers: FormatNumbers) -> usize
-    ensures { result ≡ length_or_0 (format_of numbers) }
+pub extern "C" fn yildegga_image_length(k: u32) -> usize
+    ensures { result ≡ length_or_0 k }
 {
-    numbers.format().image_length()
+    Precision(k).image_length()
 }
 
 // Writes the image of precision k at the front of the buffer, and zeros behind it to the end. The answer is made field by field: handed on whole, it
 // is copied through memory in pieces that overlap, and the processor waits for them.
 #[unsafe(no_mangle)]
-pub extern "C" fn yildegga_build(numbers: FormatNumbers, image: &mut [u8]) -> Done
-    ensures value { result ≡ done (build_outcome (format_of numbers) image.old) }
-    ensures image_after { image.new ≡ build_leaves (format_of numbers) image.old }
+pub extern "C" fn yildegga_build(k: u32, image: &mut [u8]) -> Done
+    ensures value { result ≡ done (build_outcome k image.old) }
+    ensures image_after { image.new ≡ build_leaves k image.old }
 {
-    let done = building::build(numbers.format(), image);
+    let done = building::build(Precision(k), image);
     Done {
         number: done.number,
         place: done.place,
@@ -37,18 +37,18 @@ pub extern "C" fn yildegga_build(numbers: FormatNumbers, image: &mut [u8]) -> Do
 // Whether every word of the image is the construction's and the bytes past it are zero. The place of refusal 6 is the lowest node of a wrong word, that
 // of refusal 7 the lowest byte past the image that is not zero.
 #[unsafe(no_mangle)]
-pub extern "C" fn yildegga_check(numbers: FormatNumbers, image: &[u8]) -> Done
-    ensures { result ≡ done (check_outcome (format_of numbers) image.now) }
+pub extern "C" fn yildegga_check(k: u32, image: &[u8]) -> Done
+    ensures { result ≡ done (check_outcome k image.now) }
 {
-    checking::check(numbers.format(), image)
+    checking::check(Precision(k), image)
 }
 
 // The value of node j.
 #[unsafe(no_mangle)]
-pub extern "C" fn yildegga_node(numbers: FormatNumbers, image: &[u8], j: u32) -> NodeRead
-    ensures { result ≡ node_read (node_outcome (format_of numbers) image.now j) }
+pub extern "C" fn yildegga_node(k: u32, image: &[u8], j: u32) -> NodeRead
+    ensures { result ≡ node_read (node_outcome k image.now j) }
 {
-    reading::node(numbers.format(), image, j)
+    reading::node(Precision(k), image, j)
 }
 
 // Node j of precision 8 by the constant list, with no image lent, 0 where j is above 256.
@@ -61,21 +61,16 @@ pub extern "C" fn yildegga_node_8(j: u32) -> TableUnits
 
 // Where in the image the bytes stand that hold the word of node j, by the place of the first and their number.
 #[unsafe(no_mangle)]
-pub extern "C" fn yildegga_word_bytes(numbers: FormatNumbers, image: &[u8], j: u32) -> Part
-    ensures { result ≡ part (shown_from (format_of numbers) image.now j) (shown_count (format_of numbers) image.now j) }
+pub extern "C" fn yildegga_word_bytes(k: u32, image: &[u8], j: u32) -> Part
+    ensures { result ≡ part (shown_from k image.now j) (shown_count k image.now j) }
 {
-    reading::word_part(numbers.format(), image, j)
+    reading::word_part(Precision(k), image, j)
 }
 
 // The reciprocal of the operand x, which has n fraction bits.
 #[unsafe(no_mangle)]
-pub extern "C" fn yildegga_reciprocal(
-    numbers: FormatNumbers,
-    image: &[u8],
-    n: u32,
-    x: u64,
-) -> ReciprocalGiven
-    ensures { result ≡ reciprocal_given (reciprocal_outcome (format_of numbers) image.now n x) }
+pub extern "C" fn yildegga_reciprocal(k: u32, image: &[u8], n: u32, x: u64) -> ReciprocalGiven
+    ensures { result ≡ reciprocal_given (reciprocal_outcome k image.now n x) }
 {
-    inverting::reciprocal(numbers.format(), image, n, x)
+    inverting::reciprocal(Precision(k), image, n, x)
 }

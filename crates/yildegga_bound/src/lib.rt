@@ -2,30 +2,24 @@
 // library of their own the compiler has one caller of each call, and makes it one piece with the call beneath.
 ghost use Rattle.std.specs.Prelude.{◌≡◌};
 ghost use Rattle.answers.specs.Answer.{node_read, reciprocal_given};
-ghost use Rattle.format.specs.Format.{format_of};
 ghost use Rattle.image.specs.Calls.{node_outcome};
 ghost use Rattle.interpolation.specs.Calls.{reciprocal_outcome};
 
 use answers::{NodeRead, ReciprocalGiven};
-use format::FormatNumbers;
+use precision::Precision;
 
 // The value of node j through a bound table.
 #[unsafe(no_mangle)]
-pub extern "C" fn yildegga_bound_node(numbers: FormatNumbers, image: &[u8], j: u32) -> NodeRead
-    ensures { result ≡ node_read (node_outcome (format_of numbers) image.now j) }
+pub extern "C" fn yildegga_bound_node(k: u32, image: &[u8], j: u32) -> NodeRead
+    ensures { result ≡ node_read (node_outcome k image.now j) }
 {
-    binding::bound_node(numbers.format(), image, j)
+    binding::bound_node(Precision(k), image, j)
 }
 
 // The reciprocal of the operand x through a bound table.
 #[unsafe(no_mangle)]
-pub extern "C" fn yildegga_bound_reciprocal(
-    numbers: FormatNumbers,
-    image: &[u8],
-    n: u32,
-    x: u64,
-) -> ReciprocalGiven
-    ensures { result ≡ reciprocal_given (reciprocal_outcome (format_of numbers) image.now n x) }
+pub extern "C" fn yildegga_bound_reciprocal(k: u32, image: &[u8], n: u32, x: u64) -> ReciprocalGiven
+    ensures { result ≡ reciprocal_given (reciprocal_outcome k image.now n x) }
 {
-    binding::bound_reciprocal(numbers.format(), image, n, x)
+    binding::bound_reciprocal(Precision(k), image, n, x)
 }

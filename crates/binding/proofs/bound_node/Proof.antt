@@ -6,7 +6,7 @@ use Rattle.answers.specs.Answer.{node_read}
 use Rattle.answers.specs.contracts.NodeRead as S
 use Rattle.answers.proofs.NodeRead.TheLaws as S'
 use Rattle.image.specs.Calls.{node_outcome}
-use Rattle.format.proofs.Format.TheLaws as P'
+use Rattle.precision.proofs.Precision.TheLaws as P'
 use Rattle.binding.proofs.Table.{refl, [], ◌∷◌, w32, vint, WpFn, tables, raw, given, later, ◌$◌, ◌∵◌, !, qed, move, learn, await, done, look, init, forget, stop, from, no_more, calls, land, returns, enter, alloc1, alloc0, params1}
 use Rattle.binding.proofs.Table.{pass1, pass0, free1, free0, Typed, now, triple_of, entered, cited, framed, Local, slice-mach, nums, arg, through}
 use Rattle.binding.specs.contracts.bind as bind
@@ -25,7 +25,7 @@ unfolding code.routine
 bound-node-spec 𝓤 𝓛 𝓜 𝓡 =
     entered 𝓤 𝓛.H (triple_of 𝓛 bound-node.signature (bound-node.spec 𝓛 𝓜.mem 𝓡.run)) (tables 𝓤 𝓛.H 𝓜 𝓡 code.env).C (tables 𝓤 𝓛.H 𝓜 𝓡 code.env).Λ name code.function (code.unfolded 𝓤 𝓛.H 𝓜 𝓡) (λ ((κs, qs, bounds, (k, (s, (j, _))), vss), g).
     through 𝓛 𝓜 𝓡 code.env κs qs (w32 ∷ []) S.the_row (LL.lawful S.the_type S'.the_laws 𝓛)
-    (λ k s e. node_read (node_outcome k (now s) e.0)) node-def.name (WpFn 𝓤 𝓛.H (tables 𝓤 𝓛.H 𝓜 𝓡 code.env).C (tables 𝓤 𝓛.H 𝓜 𝓡 code.env).Λ code.function)
+    (λ k s e. node_read (node_outcome k.0 (now s) e.0)) node-def.name (WpFn 𝓤 𝓛.H (tables 𝓤 𝓛.H 𝓜 𝓡 code.env).C (tables 𝓤 𝓛.H 𝓜 𝓡 code.env).Λ code.function)
     bind-def.name (λ k s. cited 𝓤 𝓛.H (triple_of 𝓛 bind.signature (bind.spec 𝓛 𝓜.mem 𝓡.run)) 𝓜 𝓡 code.env bind-def.name bind-def.routine code.calls-binding::bind (bind-thm.met 𝓤 𝓛 𝓜 𝓡)
     ((κs, qs, bounds, (k, (s, tt)), (P'.lowered k ∷ [], (slice-mach s ∷ [], tt))), g))
     (λ d u e. cited 𝓤 𝓛.H (triple_of 𝓛 node.signature (node.spec 𝓛 𝓜.mem 𝓡.run)) 𝓜 𝓡 code.env node-def.name node-def.routine code.calls-binding::node (node-thm.met 𝓤 𝓛 𝓜 𝓡)

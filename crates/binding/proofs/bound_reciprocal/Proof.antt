@@ -6,7 +6,7 @@ use Rattle.answers.specs.Answer.{reciprocal_given}
 use Rattle.answers.specs.contracts.ReciprocalGiven as S
 use Rattle.answers.proofs.ReciprocalGiven.TheLaws as S'
 use Rattle.interpolation.specs.Calls.{reciprocal_outcome}
-use Rattle.format.proofs.Format.TheLaws as P'
+use Rattle.precision.proofs.Precision.TheLaws as P'
 use Rattle.binding.proofs.Table.{refl, [], ◌∷◌, w32, w64, vint, WpFn, tables, raw, given, later, ◌$◌, ◌∵◌, !, qed, move, learn, await, done, look, init, forget, stop, from, no_more, calls, land, returns, enter, alloc1, alloc0, params1}
 use Rattle.binding.proofs.Table.{pass1, pass0, free1, free0, Typed, now, triple_of, entered, cited, framed, Local, slice-mach, nums, arg, through}
 use Rattle.binding.specs.contracts.bind as bind
@@ -25,7 +25,7 @@ unfolding code.routine
 bound-reciprocal-spec 𝓤 𝓛 𝓜 𝓡 =
     entered 𝓤 𝓛.H (triple_of 𝓛 bound-reciprocal.signature (bound-reciprocal.spec 𝓛 𝓜.mem 𝓡.run)) (tables 𝓤 𝓛.H 𝓜 𝓡 code.env).C (tables 𝓤 𝓛.H 𝓜 𝓡 code.env).Λ name code.function (code.unfolded 𝓤 𝓛.H 𝓜 𝓡) (λ ((κs, qs, bounds, (k, (s, (n, (x, _)))), vss), g).
     through 𝓛 𝓜 𝓡 code.env κs qs (w32 ∷ w64 ∷ []) S.the_row (LL.lawful S.the_type S'.the_laws 𝓛)
-    (λ k s e. reciprocal_given (reciprocal_outcome k (now s) e.0 e.1.0)) reciprocal-def.name (WpFn 𝓤 𝓛.H (tables 𝓤 𝓛.H 𝓜 𝓡 code.env).C (tables 𝓤 𝓛.H 𝓜 𝓡 code.env).Λ code.function)
+    (λ k s e. reciprocal_given (reciprocal_outcome k.0 (now s) e.0 e.1.0)) reciprocal-def.name (WpFn 𝓤 𝓛.H (tables 𝓤 𝓛.H 𝓜 𝓡 code.env).C (tables 𝓤 𝓛.H 𝓜 𝓡 code.env).Λ code.function)
     bind-def.name (λ k s. cited 𝓤 𝓛.H (triple_of 𝓛 bind.signature (bind.spec 𝓛 𝓜.mem 𝓡.run)) 𝓜 𝓡 code.env bind-def.name bind-def.routine code.calls-binding::bind (bind-thm.met 𝓤 𝓛 𝓜 𝓡)
     ((κs, qs, bounds, (k, (s, tt)), (P'.lowered k ∷ [], (slice-mach s ∷ [], tt))), g))
     (λ d u e. cited 𝓤 𝓛.H (triple_of 𝓛 reciprocal.signature (reciprocal.spec 𝓛 𝓜.mem 𝓡.run)) 𝓜 𝓡 code.env reciprocal-def.name reciprocal-def.routine code.calls-binding::reciprocal (reciprocal-thm.met 𝓤 𝓛 𝓜 𝓡)

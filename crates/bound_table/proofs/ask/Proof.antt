@@ -21,9 +21,9 @@ use Rattle.answers.specs.contracts.NodeRead as N
 use Rattle.answers.proofs.NodeRead.TheLaws as N'
 use Rattle.answers.specs.contracts.ReciprocalGiven as G
 use Rattle.answers.proofs.ReciprocalGiven.TheLaws as G'
-use Rattle.format.specs.declared.Format.{Format}
-use Rattle.format.specs.contracts.Format as P
-use Rattle.format.proofs.Format.TheLaws as P'
+use Rattle.precision.specs.declared.Precision.{Precision}
+use Rattle.precision.specs.contracts.Precision as P
+use Rattle.precision.proofs.Precision.TheLaws as P'
 use Rattle.binding.specs.declared.BoundTable.{BoundTable}
 use Rattle.binding.proofs.Table.{◌≡◌, refl, ap, ◌∙◌, ℕ, List, [], ◌∷◌, Ura, named, w32, w64, Val, vint, SProp, ent, sep, emp, via, WpFn, Running, tables, ‵, raw, ◌⊛◌, given, later, ◌$◌, ◌∵◌, !, qed, by, move, split, join, learn, await, done}
 use Rattle.binding.proofs.Table.{agg, look, init, forget, stop, from, load, of_opd, no_more, assigns, calls, land, returns, enter, alloc1, alloc0, params1, pass1, pass0, free1, free0, Is, shows, Typed, RefT, now, triple_of, entered, cited, framed}
@@ -60,7 +60,7 @@ typed v₁ v₂ v₃ p₁ p₂ p₃ = (
   (p₁.0.1, (p₂.0.1, (p₃.0.1, tt))),
 )
 
-module _ {M : Type 1} {𝓤 : Ura M} (𝓛 : Logic 𝓤) (𝓜 : Model 𝓤 𝓛.H) (𝓡 : Running 𝓤 𝓛.H 𝓜) (κs : Lfts 1) (qs : Shares 1) (k : Format) (s : Bor (List ℕ)) (n x y j : ℕ) where
+module _ {M : Type 1} {𝓤 : Ura M} (𝓛 : Logic 𝓤) (𝓜 : Model 𝓤 𝓛.H) (𝓡 : Running 𝓤 𝓛.H 𝓜) (κs : Lfts 1) (qs : Shares 1) (k : Precision) (s : Bor (List ℕ)) (n x y j : ℕ) where
   open 𝓛 use {H}
 
   module _ (Q : Val → SProp 𝓤) where
@@ -110,7 +110,7 @@ module _ {M : Type 1} {𝓤 : Ura M} (𝓛 : Logic 𝓤) (𝓜 : Model 𝓤 𝓛
       qed 𝓛 (raw (toks 𝓛 1 κs qs) ∷ ‵ ((Row κs).own_val d (u ∷ [])) ∷ []) ∵
       owned ! S.the_row (Is S.the_row) (LL.makes S.the_type S'.the_plain 𝓛) (record { first = r₁; second = r₂; node = r₃ }) (whole v₁ v₂ v₃ ∷ []) ((v₁ ∷ [], (v₂ ∷ [], (v₃ ∷ [], tt))), (refl, (p₁, (p₂, (p₃, tt))))) $
       move ! (1 ∷ 0 ∷ []) $ join ! $ by ! (gives 𝓛 𝓜 𝓡 code.env κs qs S.the_row 6 (asked k (now s) n x y j) _ (whole v₁ v₂ v₃) (sem 𝓛 ((Row κs).own_val d (u ∷ [])))
-      (each (asked d.format (now d.image) n x y j) r₁ r₂ r₃ q₁ q₂ q₃ ∙ ap (λ d'. asked d'.format (now d'.image) n x y j) q))))))))))
+      (each (asked d.k (now d.image) n x y j) r₁ r₂ r₃ q₁ q₂ q₃ ∙ ap (λ d'. asked d'.k (now d'.image) n x y j) q))))))))))
       (walk Q t))
 
 pub ask-spec : {M : Type 1} → stated.statement M

@@ -12,9 +12,6 @@ use lib.Pow.{pow_mono, pow_pos}
 use lib.Dec.{eqb}
 use borrow.Author.Rules.{rules}
 use borrow.Author.Tests.{ne_eqb}
-use Rattle.format.specs.Format.{precision_of}
-use Rattle.format.specs.declared.Format.{Format}
-use Rattle.format.proofs.Laws.{width-most, count_most}
 use Rattle.packing.specs.Packing.{bytes_taken}
 use Rattle.packing.specs.Writing.{finish_leaves, writer_before, bytes_before}
 use Rattle.packing.proofs.Written.{words-finished}
@@ -23,56 +20,52 @@ use Rattle.answers.specs.Answer.{done}
 use Rattle.nodes.specs.Inner.{quotients_of}
 use Rattle.nodes.specs.declared.Quotients.{Quotients}
 use Rattle.tail.specs.Inner.{cleared_from}
-use Rattle.layout.specs.Layout.{Layout, image_of, length_of, rom_of}
+use Rattle.layout.specs.Layout.{image_of, length_of, rom_of}
 use Rattle.layout.proofs.Rom.{rom-written}
-use Rattle.image.specs.Image.{table_of}
+use Rattle.image.specs.Image.{plain}
 use Rattle.image.specs.Inner.{refusal_number, quotients, layout_of}
-use Rattle.image.proofs.Laws.{own-layout}
 use Rattle.image.proofs.Limits.{ImageKept, limit-refuses, limit-passes, limit-kept}
 use Rattle.building.specs.Inner.{CanFill}
 use Rattle.building.proofs.build.Statement.{statement}
 use Rattle.building.proofs.build.Tie as tie
 
 -- what the builder leaves of s by its answer
-abbrev leaves : Format → List ℕ → Outcome → List ℕ
-leaves F s o = cond (eqb o.number 0) (rom_of (table_of F) (length s)) s
+abbrev leaves : ℕ → List ℕ → Outcome → List ℕ
+leaves k s o = cond (eqb o.number 0) (rom_of (plain k) (length s)) s
 
 refusal-number-requires : tie.Need-refusal-number-requires
 refusal-number-requires c κs = search rules
 
 returns : tie.Need-returns
 returns c =
-    let F = c.before.before.before.args.format in
+    let k = c.before.before.before.args.k.0 in
     let s = c.before.before.before.args.image.now in
     let p = c.before.refusal-number.ensures in
-    let h : refusal_number F (length s) ≡ 0 → ⊥ = λ e. omega (arith, c.if1.true, p, e) in
-    let refused = limit-refuses F s [] 0 h in
-    (rw p (ap done (sym refused)), sym (ap (leaves F s) refused ∙ rw (ne_eqb (refusal_number F (length s)) 0 h)))
+    let h : refusal_number k (length s) ≡ 0 → ⊥ = λ e. omega (arith, c.if1.true, p, e) in
+    let refused = limit-refuses k s [] 0 h in
+    (rw p (ap done (sym refused)), sym (ap (leaves k s) refused ∙ rw (ne_eqb (refusal_number k (length s)) 0 h)))
 
 -- behind the test of the limits both are kept
-limit : (c : tie.Else1) → refusal_number c.before.before.before.args.format (length c.before.before.before.args.image.now) ≡ 0
+limit : (c : tie.Else1) → refusal_number c.before.before.before.args.k.0 (length c.before.before.before.args.image.now) ≡ 0
 limit c = sym c.before.refusal-number.ensures ∙ c.if1.false
 
-kept : (c : tie.Else1) → ImageKept c.before.before.before.args.format c.before.before.before.args.image.now
-kept c = limit-kept c.before.before.before.args.format c.before.before.before.args.image.now (limit c)
+kept : (c : tie.Else1) → ImageKept c.before.before.before.args.k.0 c.before.before.before.args.image.now
+kept c = limit-kept c.before.before.before.args.k.0 c.before.before.before.args.image.now (limit c)
 
--- so the table is that of the format, and its words can be put
-table : (c : tie.After-table) → c.table.result ≡ quotients_of c.before.before.before.before.before.args.format
+-- so the table is that of k, and its words can be put
+table : (c : tie.After-table) → c.table.result ≡ quotients_of c.before.before.before.before.before.args.k.0
 table c = c.table.ensures ∙ (kept c.before.before).numbers
 
-can-fill : (F : Format) (s : List ℕ) → ImageKept F s → CanFill (quotients_of F) (length s)
-can-fill F s ok =
+can-fill : (k : ℕ) (s : List ℕ) → ImageKept k s → CanFill (quotients_of k) (length s)
+can-fill k s ok =
     record {
-      wide = omega (arith, ok.high, width-most F.form k);
-      few = omega (arith, pow_mono ok.high, count_most F.form k);
+      wide = omega (arith, ok.high);
+      few = omega (arith, pow_mono ok.high);
       above = pow_pos (3 * k + 3);
       exact = pow_mono high;
       room = ok.long;
     }
   where
-    k : ℕ
-    k = precision_of F
-
     high : 3 * k + 3 ≤ 53
     high = omega (arith, ok.high)
 
@@ -91,7 +84,7 @@ table-requires c κs = search rules
 fill-requires : tie.Need-fill-requires
 fill-requires c κs =
     let start = c.before.before.before.before.before in
-    rw (table c) (can-fill start.args.format start.args.image.now (kept c.before.before))
+    rw (table c) (can-fill start.args.k.0 start.args.image.now (kept c.before.before))
 
 finish-requires : tie.Need-finish-requires
 finish-requires c κs = search rules
@@ -109,18 +102,17 @@ returns-2 c =
     let fill = finish.before.before.before.before in
     let tabled = fill.before in
     let at = tabled.before.before in
-    let F = at.before.before.before.args.format in
+    let k = at.before.before.before.args.k.0 in
     let s = at.before.before.before.args.image.now in
     let t = tabled.table.result in
     let past : finish.finish.result ≡ length_of (layout_of t) = finish.finish.ensures.0 ∙ ap bytes_taken fill.fill.ensures.1.1 in
     let words = finish.finish.ensures.1 ∙ ap₂ finish_leaves fill.fill.ensures.1.0 fill.fill.ensures.0 in (
-      ap done (sym (limit-passes F s [] 0 (limit at))),
+      ap done (sym (limit-passes k s [] 0 (limit at))),
       cleared.clear.ensures
-          ∙ ap₂ cleared_from past (words ∙ finished t s (rw (table tabled) (can-fill F s (kept at))))
+          ∙ ap₂ cleared_from past (words ∙ finished t s (rw (table tabled) (can-fill k s (kept at))))
           ∙ ap (λ (t : Quotients). cleared_from (length_of (layout_of t)) (image_of (layout_of t) ++ drop (length_of (layout_of t)) s)) (table tabled)
-          ∙ ap (λ (l : Layout). cleared_from (length_of l) (image_of l ++ drop (length_of l) s)) (own-layout F)
-          ∙ rom-written (table_of F) s (kept at).long
-          ∙ sym (ap (leaves F s) (limit-passes F s [] 0 (limit at))),
+          ∙ rom-written (plain k) s (kept at).long
+          ∙ sym (ap (leaves k s) (limit-passes k s [] 0 (limit at))),
     )
 
 pub build-spec : {M : Type 1} → statement M

@@ -1,5 +1,5 @@
 -- `checking::first_wrong` meets its contract. The loop's invariant: j is even, no word before word j is wrong, and `bit` is where that word
--- starts. The measure is the number of words left. Behind the loop a last word is left where their number is odd.
+-- starts. The measure is the number of words left.
 -- Assumes nothing.
 use mathlib.Core.Path.{◌≡◌, sym, ap, ◌∙◌}
 use mathlib.Core.Bool.{Bool, false, not}
@@ -16,16 +16,16 @@ use Rattle.packing.proofs.Words.{word_lt}
 use Rattle.bools.proofs.Lowest.{lowest-is, lowest-none}
 use Rattle.layout.specs.Layout.{is_wrong}
 use Rattle.image.specs.Inner.{layout_of}
-use Rattle.checking.proofs.Twos.{word_fits, first_of, second-of, alone_of, test-tells}
+use Rattle.checking.proofs.Twos.{word_fits, first_of, second-of, test-tells}
 use Rattle.checking.proofs.first_wrong.Statement.{statement}
 use Rattle.checking.proofs.first_wrong.Tie as tie
 
 abbrev invariant-loop : tie.invariant-loop
-invariant-loop image width count numerator first lead paired j₀ bit₀ j bit =
+invariant-loop image width count numerator first lead j₀ bit₀ j bit =
     (j % 2 ≡ 0) × (j ≤ count) × ((i : ℕ) → i < j → is_wrong (layout_of (record { count = count; width = width; numerator = numerator; first = first; lead = lead })) image i ≡ false) × (bit ≡ j * width)
 
 abbrev decreases-loop : tie.decreases-loop
-decreases-loop image width count numerator first lead paired j₀ bit₀ j bit = count - j
+decreases-loop image width count numerator first lead j₀ bit₀ j bit = count - j
 
 -- a turn of the loop, what the function was told, its bytes and the place where the turn is
 abbrev Turn : Type 0
@@ -45,7 +45,7 @@ bytes c i = omega (arith, c.before.before.shared-slice-known.given i)
 
 -- both words of the turn are there
 both-there : (c : Turn) → j c + 1 < (start c).args.table.count
-both-there c = omega (arith, c.before.loop.invariant.0, c.loop-test.true)
+both-there c = omega (arith, c.before.loop.invariant.0, (start c).requires.even, c.loop-test.true)
 
 -- what is read, by the place of the turn
 abbrev both : Turn → ℕ
@@ -110,9 +110,6 @@ second-test : (c : tie.After-rounds-up2 invariant-loop decreases-loop) → is-wr
 second-test c =
     let at = turn3 c in
     test-tells (start at).pre (s at) (j at + 1) (both-there at) (second_word c.before.before) c.before.decoded2.ensures c.rounds-up2.ensures
-
-mul-paired : tie.Need-overflow-mul-paired invariant-loop decreases-loop
-mul-paired c = omega arith
 
 loop-holds : tie.Need-loop-init invariant-loop decreases-loop
 loop-holds c = (omega arith, omega arith, below_none _, omega arith)
@@ -208,75 +205,11 @@ loop-again c =
       omega (arith, at.before.loop.inv.3),
     )
 
--- behind the loop, what the function was told, its bytes, and the word that is left, where one is
-abbrev Left : Type 0
-Left = tie.Then3 invariant-loop decreases-loop
-
-abbrev told : Left → tie.Start invariant-loop decreases-loop
-told c = c.before.before.before.before
-
-abbrev own : Left → List ℕ
-own c = (told c).args.image.now
-
-abbrev last : Left → ℕ
-last c = c.before.before.loop.j
-
-last_word : (c : tie.After-field2 invariant-loop decreases-loop) → c.field2.result ≡ word_at (told c.before).args.table.width (own c.before) (last c.before)
-last_word c =
-    let at = c.before in
-    c.field2.ensures.0
-    ∙ ap (λ (b : ℕ). field_read (own at) b (told at).args.table.width) at.before.before.loop.invariant.3
-    ∙ alone_of (told at).requires (own at) (last at)
-
-last_fits : (c : Left) {word : ℕ} → word ≡ word_at (told c).args.table.width (own c) (last c) → decode_under (told c).args.table.lead (last c) word < 2 ^ 32
-last_fits c is = rw is ((told c).requires.values (last c) (word_at (told c).args.table.width (own c) (last c)) (word_lt (told c).args.table.width (own c) (last c)))
-
-abbrev left_at : tie.After-rounds-up3 invariant-loop decreases-loop → Left
-left_at c = c.before.before.before
-
-last-test : (c : tie.After-rounds-up3 invariant-loop decreases-loop) → is_wrong (layout_of (told (left_at c)).args.table) (own (left_at c)) (last (left_at c)) ≡ not c.rounds-up3.result
-last-test c =
-    let at = left_at c in
-    test-tells (told at).pre (own at) (last at) at.if3.taken (last_word c.before.before) c.before.decoded3.ensures c.rounds-up3.ensures
-
-field-requires-2 : tie.Need-field-requires-2 invariant-loop decreases-loop
-field-requires-2 c κs = search rules
-
-cast-decoded-3 : tie.Need-overflow-cast-decoded-3 invariant-loop decreases-loop
-cast-decoded-3 c = omega (arith, last_word c, word_fits (told c.before).pre (own c.before) (last c.before))
-
-decoded-requires-3 : tie.Need-decoded-requires-3 invariant-loop decreases-loop
-decoded-requires-3 c κs = search rules
-
-add-rounds-up-4 : tie.Need-overflow-add-rounds-up-4 invariant-loop decreases-loop
-add-rounds-up-4 c = let at = c.before.before in omega (arith, (told at).requires.divisors, at.if3.true)
-
-cast-rounds-up-3 : tie.Need-overflow-cast-rounds-up-3 invariant-loop decreases-loop
-cast-rounds-up-3 c = omega (arith, c.decoded3.ensures, last_fits c.before.before (last_word c.before))
-
-rounds-up-requires-3 : tie.Need-rounds-up-requires-3 invariant-loop decreases-loop
-rounds-up-requires-3 c κs = search rules
-
 returns-3 : tie.Need-returns-3 invariant-loop decreases-loop
 returns-3 c =
-    let at = left_at c.before in
-    let a = (told at).args in
-    sym (lowest-is (is_wrong (layout_of a.table) (own at)) a.table.count (last at) at.if3.taken (last-test c.before ∙ c.if4.true) at.before.before.loop.inv.2)
-
--- the last word is right, or there is none
-returns-4 : tie.Need-returns-4 invariant-loop decreases-loop
-returns-4 c =
-    let at = left_at c.before in
-    let a = (told at).args in
-    let l = at.before.before.loop in
-    sym (lowest-none (is_wrong (layout_of a.table) (own at)) a.table.count
-    (λ i h. below_more _ _ l.inv.2 (last-test c.before ∙ c.if4.false) i (omega (arith, h, l.inv.0, at.before.loop-test.left))))
-
-returns-5 : tie.Need-returns-5 invariant-loop decreases-loop
-returns-5 c =
-    let a = c.before.before.before.before.args in
-    let l = c.before.before.loop in
-    sym (lowest-none (is_wrong (layout_of a.table) a.image.now) a.table.count (λ i h. l.invariant.2 i (omega (arith, h, c.if3.false))))
+    let a = c.before.before.before.args in
+    let all : a.table.count ≤ c.before.loop.j = omega (arith, c.loop-test.false) in
+    sym (lowest-none (is_wrong (layout_of a.table) a.image.now) a.table.count (λ i h. c.before.loop.invariant.2 i (omega arith)))
 
 pub first-wrong-spec : {M : Type 1} → statement M
 first-wrong-spec =
@@ -284,7 +217,6 @@ first-wrong-spec =
     (tie.spec
     invariant-loop
     decreases-loop
-    mul-paired
     loop-holds
     mul-field
     field-requires
@@ -311,12 +243,4 @@ first-wrong-spec =
     add-bit
     loop-less
     loop-again
-    field-requires-2
-    cast-decoded-3
-    decoded-requires-3
-    add-rounds-up-4
-    cast-rounds-up-3
-    rounds-up-requires-3
-    returns-3
-    returns-4
-    returns-5)
+    returns-3)

@@ -6,7 +6,7 @@ use native.Mathlib.Omega.{arith}
 use lib.ListN.{length, take, length-take}
 use borrow.Author.Rules.{rules}
 use borrow.Author.Tests.{ne_eqb}
-use Rattle.format.specs.Format.{image_length}
+use Rattle.precision.specs.Precision.{image_length}
 use Rattle.packing.specs.Packing.{byte_count}
 use Rattle.nodes.specs.declared.Quotients.{Quotients}
 use Rattle.image.specs.Inner.{refusal_number}
@@ -24,16 +24,16 @@ slice-aggregate-result c = search rules
 returns : tie.Need-returns
 returns c =
     let a = c.before.before.before.before.args in
-    (rw (ne_eqb (refusal_number a.format (length a.image.now)) 0 (λ e. omega (arith, c.before.if1.true, c.before.before.refusal-number.ensures, e))), (refl, refl))
+    (rw (ne_eqb (refusal_number a.k.0 (length a.image.now)) 0 (λ e. omega (arith, c.before.if1.true, c.before.before.refusal-number.ensures, e))), (refl, refl))
 
 -- behind the test of the limits both are kept
-kept : (c : tie.Else1) → ImageKept c.before.before.before.args.format c.before.before.before.args.image.now
+kept : (c : tie.Else1) → ImageKept c.before.before.before.args.k.0 c.before.before.before.args.image.now
 kept c =
     let a = c.before.before.before.args in
-    limit-kept a.format a.image.now (omega (arith, c.before.refusal-number.ensures, c.if1.false))
+    limit-kept a.k.0 a.image.now (omega (arith, c.before.refusal-number.ensures, c.if1.false))
 
 -- so the bytes that are counted are those of the image
-bytes : (c : tie.After-byte-count) → c.byte-count.result ≡ image_length c.before.before.before.before.before.args.format
+bytes : (c : tie.After-byte-count) → c.byte-count.result ≡ image_length c.before.before.before.before.before.args.k.0
 bytes c =
     c.byte-count.ensures
     ∙ ap (λ (t : Quotients). byte_count t.width t.count) (c.before.table.ensures ∙ (kept c.before.before).numbers)
@@ -51,7 +51,7 @@ returns-2 : tie.Need-returns-2
 returns-2 c =
     let at = c.before.before.before in
     let a = at.before.before.before.args in
-    (ap (λ (n : ℕ). take n a.image.now) (bytes c.before) ∙ sym (own-taken a.format a.image.now (kept at)), (refl, refl))
+    (ap (λ (n : ℕ). take n a.image.now) (bytes c.before) ∙ sym (own-taken a.k.0 a.image.now (kept at)), (refl, refl))
 
 pub own-bytes-spec : {M : Type 1} → statement M
 own-bytes-spec =

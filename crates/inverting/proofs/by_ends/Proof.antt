@@ -9,16 +9,13 @@ use native.Mathlib.Omega.{arith}
 use lib.Pow.{pow_mono, pow_pos}
 use borrow.Author.Rules.{rules}
 use borrow.Author.Tests.{not-true, not-false}
+use Rattle.precision.specs.Precision.{word_width}
 use Rattle.precision.proofs.Range.{range-in}
-use Rattle.format.specs.Format.{asked, word_width}
-use Rattle.format.specs.declared.Format.{Format}
-use Rattle.format.proofs.Laws.{width-most}
 use Rattle.quotient.specs.Inner.{numerator_bits, rounds_up}
-use Rattle.nodes.specs.Nodes.{node, decode_under}
-use Rattle.nodes.specs.Inner.{lead_in, quotients_of}
+use Rattle.nodes.specs.Nodes.{leading_one, node, decode_under}
+use Rattle.nodes.specs.Inner.{quotients_of}
 use Rattle.nodes.specs.declared.Quotients.{Quotients}
-use Rattle.nodes.proofs.Nodes.{node-most, node-ordered, numerator-whole, passed-is-node}
-use Rattle.nodes.proofs.Forms.{decoded-most}
+use Rattle.nodes.proofs.Nodes.{node-most, node-ordered, decode-most, numerator-whole, passed-is-node}
 use Rattle.nodes.proofs.Numbers.{own-numbers}
 use Rattle.answers.specs.Refusal.{served}
 use Rattle.interpolation.specs.Algorithm.{product_sum, chopped}
@@ -28,15 +25,12 @@ use Rattle.inverting.proofs.Ends.{word-above, code-served, code-wrong}
 use Rattle.inverting.proofs.by_ends.Statement.{statement}
 use Rattle.inverting.proofs.by_ends.Tie as tie
 
--- the precision, the format, both words, the number of the node and f, at the place where the code has the table
+-- the precision, both words, the number of the node and f, at the place where the code has the table
 abbrev k : tie.After-table → ℕ
 k c = c.before.args.precision
 
-abbrev F : tie.After-table → Format
-F c = asked c.before.args.form (k c)
-
 abbrev both : tie.After-table → ℕ
-both c = both_in (F c) c.before.args.window
+both c = both_in (k c) c.before.args.window
 
 abbrev j : tie.After-table → ℕ
 j c = c.before.args.j
@@ -54,27 +48,24 @@ below c = c.before.requires.below
 few : (c : tie.After-table) → 2 ^ k c ≤ 2 ^ 12
 few c = pow_mono c.before.requires.high
 
--- the table is that of the format
-table : (c : tie.After-table) → c.table.result ≡ quotients_of (F c)
-table c = c.table.ensures ∙ own-numbers (F c) (range-in (k c) c.before.requires.low c.before.requires.high)
+-- the table is that of the precision
+table : (c : tie.After-table) → c.table.result ≡ quotients_of (k c)
+table c = c.table.ensures ∙ own-numbers (k c) (range-in (k c) c.before.requires.low c.before.requires.high)
 
-is-width : (c : tie.After-table) → c.table.result.width ≡ word_width (F c)
+is-width : (c : tie.After-table) → c.table.result.width ≡ word_width (k c)
 is-width c = ap (λ (q : Quotients). q.width) (table c)
 
 is-first : (c : tie.After-table) → c.table.result.first ≡ 2 ^ k c
 is-first c = ap (λ (q : Quotients). q.first) (table c)
 
--- a word has at most 28 bits, and what it stands for 29
-wide : (c : tie.After-table) → word_width (F c) ≤ 28
-wide c = omega (arith, c.before.requires.high, width-most (F c).form (k c))
+-- a word has at most 26 bits, and what it stands for 28
+narrow : (c : tie.After-table) → 2 ^ word_width (k c) ≤ 2 ^ 26
+narrow c = let top : word_width (k c) ≤ 26 = omega (arith, c.before.requires.high) in pow_mono top
 
-narrow : (c : tie.After-table) → 2 ^ word_width (F c) ≤ 2 ^ 28
-narrow c = pow_mono (wide c)
-
-stands-for-fits : (c : tie.After-table) (i word : ℕ) → word < 2 ^ word_width (F c) → decode_under (lead_in (F c).form (k c)) i word ≤ 2 ^ 28
+stands-for-fits : (c : tie.After-table) (i word : ℕ) → word < 2 ^ word_width (k c) → decode_under (leading_one (k c)) i word ≤ 2 ^ 27
 stands-for-fits c i word l =
-    let top : 2 * k c + 4 ≤ 28 = omega (arith, c.before.requires.high) in
-    omega (arith, decoded-most (F c).form (k c) i word l, pow_mono top)
+    let top : 2 * k c + 3 ≤ 27 = omega (arith, c.before.requires.high) in
+    omega (arith, decode-most (k c) i word l, pow_mono top)
 
 -- the test by the numbers of the table is that of the precision, of whose numerator all bits count
 abbrev tested : tie.After-table → ℕ → ℕ → Bool
@@ -89,28 +80,28 @@ is-tested c i value =
 is-both : (c : tie.After-high) → c.high.result ≡ both c.before
 is-both c = c.high.ensures ∙ ap (λ (q : Quotients). c.before.before.args.window / 2 ^ (64 - 2 * q.width)) (table c.before)
 
-first_word : (c : tie.After-high2) → c.high2.result ≡ both c.before.before / 2 ^ word_width (F c.before.before)
+first_word : (c : tie.After-high2) → c.high2.result ≡ both c.before.before / 2 ^ word_width (k c.before.before)
 first_word c =
     let at = c.before.before in
     c.high2.ensures ∙ ap₂ (λ (x w : ℕ). x / 2 ^ w) (is-both c.before) (is-width at)
 
-first_below : (c : tie.After-high2) → both c.before.before / 2 ^ word_width (F c.before.before) < 2 ^ word_width (F c.before.before)
+first_below : (c : tie.After-high2) → both c.before.before / 2 ^ word_width (k c.before.before) < 2 ^ word_width (k c.before.before)
 first_below c =
     let at = c.before.before in
-    word-above (F at) at.before.args.window at.before.requires.high (omega (arith, at.before.ranges.window))
+    word-above (k at) at.before.args.window at.before.requires.high (omega (arith, at.before.ranges.window))
 
 -- the lower end, and what the test says of it
 abbrev at1 : tie.After-decoded → tie.After-table
 at1 c = c.before.before.before
 
-lower : (c : tie.After-decoded) → c.decoded.result.0 ≡ lower_end (F (at1 c)) (both (at1 c)) (j (at1 c))
+lower : (c : tie.After-decoded) → c.decoded.result.0 ≡ lower_end (k (at1 c)) (both (at1 c)) (j (at1 c))
 lower c =
     let at = at1 c in
     c.decoded.ensures
     ∙ ap (λ (q : Quotients). decode_under q.lead (j at) c.before.high2.result) (table at)
-    ∙ ap (decode_under (lead_in (F at).form (k at)) (j at)) (first_word c.before)
+    ∙ ap (decode_under (leading_one (k at)) (j at)) (first_word c.before)
 
-lower-test : (c : tie.After-rounds-up) → c.rounds-up.result ≡ passes (k (at1 c.before.before)) (j (at1 c.before.before)) (lower_end (F (at1 c.before.before)) (both (at1 c.before.before)) (j (at1 c.before.before)))
+lower-test : (c : tie.After-rounds-up) → c.rounds-up.result ≡ passes (k (at1 c.before.before)) (j (at1 c.before.before)) (lower_end (k (at1 c.before.before)) (both (at1 c.before.before)) (j (at1 c.before.before)))
 lower-test c =
     let node = c.before.before in
     let at = at1 node in
@@ -124,26 +115,26 @@ first-node c = c.before.before.before
 abbrev at2 : tie.Else1 → tie.After-table
 at2 c = at1 (first-node c)
 
-second_word : (c : tie.After-low) → c.low.result ≡ both (at2 c.before) % 2 ^ word_width (F (at2 c.before))
+second_word : (c : tie.After-low) → c.low.result ≡ both (at2 c.before) % 2 ^ word_width (k (at2 c.before))
 second_word c =
     let at = at2 c.before in
     c.low.ensures ∙ ap₂ (λ (x w : ℕ). x % 2 ^ w) (is-both (first-node c.before).before.before) (is-width at)
 
-second_below : (c : tie.After-low) → both (at2 c.before) % 2 ^ word_width (F (at2 c.before)) < 2 ^ word_width (F (at2 c.before))
-second_below c = let at = at2 c.before in mod-lt (both at) (pow_pos (word_width (F at)))
+second_below : (c : tie.After-low) → both (at2 c.before) % 2 ^ word_width (k (at2 c.before)) < 2 ^ word_width (k (at2 c.before))
+second_below c = let at = at2 c.before in mod-lt (both at) (pow_pos (word_width (k at)))
 
 -- the upper end, and what the test says of it
 abbrev at3 : tie.After-decoded2 → tie.After-table
 at3 c = at2 c.before.before
 
-upper : (c : tie.After-decoded2) → c.decoded2.result.0 ≡ upper_end (F (at3 c)) (both (at3 c)) (j (at3 c))
+upper : (c : tie.After-decoded2) → c.decoded2.result.0 ≡ upper_end (k (at3 c)) (both (at3 c)) (j (at3 c))
 upper c =
     let at = at3 c in
     c.decoded2.ensures
     ∙ ap (λ (q : Quotients). decode_under q.lead (j at + 1) c.before.low.result) (table at)
-    ∙ ap (decode_under (lead_in (F at).form (k at)) (j at + 1)) (second_word c.before)
+    ∙ ap (decode_under (leading_one (k at)) (j at + 1)) (second_word c.before)
 
-upper-test : (c : tie.After-rounds-up2) → c.rounds-up2.result ≡ passes (k (at3 c.before.before)) (j (at3 c.before.before) + 1) (upper_end (F (at3 c.before.before)) (both (at3 c.before.before)) (j (at3 c.before.before)))
+upper-test : (c : tie.After-rounds-up2) → c.rounds-up2.result ≡ passes (k (at3 c.before.before)) (j (at3 c.before.before) + 1) (upper_end (k (at3 c.before.before)) (both (at3 c.before.before)) (j (at3 c.before.before)))
 upper-test c =
     let node = c.before.before in
     let at = at3 node in
@@ -166,21 +157,21 @@ low_end c = (first-node (one-passed c)).decoded.result.0
 abbrev high_end : tie.Else2 → ℕ
 high_end c = (second-node c).decoded2.result.0
 
-lower-passes : (c : tie.Else1) → passes (k (at2 c)) (j (at2 c)) (lower_end (F (at2 c)) (both (at2 c)) (j (at2 c))) ≡ true
+lower-passes : (c : tie.Else1) → passes (k (at2 c)) (j (at2 c)) (lower_end (k (at2 c)) (both (at2 c)) (j (at2 c))) ≡ true
 lower-passes c = sym (lower-test c.before) ∙ not-false c.before.rounds-up.result c.if1.false
 
-upper-passes : (c : tie.Else2) → passes (k (at4 c)) (j (at4 c) + 1) (upper_end (F (at4 c)) (both (at4 c)) (j (at4 c))) ≡ true
+upper-passes : (c : tie.Else2) → passes (k (at4 c)) (j (at4 c) + 1) (upper_end (k (at4 c)) (both (at4 c)) (j (at4 c))) ≡ true
 upper-passes c = sym (upper-test c.before) ∙ not-false c.before.rounds-up2.result c.if2.false
 
 low-is-node : (c : tie.Else2) → low_end c ≡ node (k (at4 c)) (j (at4 c))
 low-is-node c =
     let at = at4 c in
-    lower (first-node (one-passed c)) ∙ passed-is-node (k at) (j at) (lower_end (F at) (both at) (j at)) (lower-passes (one-passed c))
+    lower (first-node (one-passed c)) ∙ passed-is-node (k at) (j at) (lower_end (k at) (both at) (j at)) (lower-passes (one-passed c))
 
 high-is-node : (c : tie.Else2) → high_end c ≡ node (k (at4 c)) (j (at4 c) + 1)
 high-is-node c =
     let at = at4 c in
-    upper (second-node c) ∙ passed-is-node (k at) (j at + 1) (upper_end (F at) (both at) (j at)) (upper-passes c)
+    upper (second-node c) ∙ passed-is-node (k at) (j at + 1) (upper_end (k at) (both at) (j at)) (upper-passes c)
 
 -- so they fall from the one to the other
 falling : (c : tie.Else2) → high_end c ≤ low_end c
@@ -198,10 +189,10 @@ table-requires : tie.Need-table-requires
 table-requires c κs = search rules
 
 mul-high : tie.Need-overflow-mul-high
-mul-high c = omega (arith, is-width c, wide c)
+mul-high c = omega (arith, is-width c, c.before.requires.high)
 
 sub-high : tie.Need-overflow-sub-high
-sub-high c = omega (arith, is-width c, wide c)
+sub-high c = omega (arith, is-width c, c.before.requires.high)
 
 high-requires : tie.Need-high-requires
 high-requires c κs = search rules
@@ -221,7 +212,7 @@ add-rounds-up c = let at = at1 c in omega (arith, is-first at, below at, few at)
 cast-rounds-up : tie.Need-overflow-cast-rounds-up
 cast-rounds-up c =
     let at = at1 c.before in
-    record { fits = omega (arith, lower c.before, stands-for-fits at (j at) (both at / 2 ^ word_width (F at)) (first_below c.before.before)) }
+    record { fits = omega (arith, lower c.before, stands-for-fits at (j at) (both at / 2 ^ word_width (k at)) (first_below c.before.before)) }
 
 rounds-up-requires : tie.Need-rounds-up-requires
 rounds-up-requires c κs = search rules
@@ -232,7 +223,7 @@ add-result c = search rules
 returns : tie.Need-returns
 returns c =
     let at = at1 c.before.before.before in
-    let fails : passes (k at) (j at) (lower_end (F at) (both at) (j at)) ≡ false =
+    let fails : passes (k at) (j at) (lower_end (k at) (both at) (j at)) ≡ false =
     sym (lower-test c.before) ∙ not-true c.before.rounds-up.result c.if1.true in
     rw fails (code-wrong (4294967296 + j at) (j at) (omega arith))
 
@@ -257,7 +248,7 @@ add-rounds-up-3 c = let at = at3 c in omega (arith, is-first at, below at, few a
 cast-rounds-up-2 : tie.Need-overflow-cast-rounds-up-2
 cast-rounds-up-2 c =
     let at = at3 c.before in
-    record { fits = omega (arith, upper c.before, stands-for-fits at (j at + 1) (both at % 2 ^ word_width (F at)) (second_below c.before.before)) }
+    record { fits = omega (arith, upper c.before, stands-for-fits at (j at + 1) (both at % 2 ^ word_width (k at)) (second_below c.before.before)) }
 
 rounds-up-requires-2 : tie.Need-rounds-up-requires-2
 rounds-up-requires-2 c κs = search rules
@@ -269,7 +260,7 @@ returns-2 : tie.Need-returns-2
 returns-2 c =
     let node = c.before.before.before in
     let at = at3 node in
-    let fails : passes (k at) (j at + 1) (upper_end (F at) (both at) (j at)) ≡ false =
+    let fails : passes (k at) (j at + 1) (upper_end (k at) (both at) (j at)) ≡ false =
     sym (upper-test c.before) ∙ not-true c.before.rounds-up2.result c.if2.true in
     rw (lower-passes node.before.before, fails) (code-wrong (4294967297 + j at) (j at + 1) (omega arith))
 
@@ -308,7 +299,7 @@ returns-3 c =
     ∙ ap served
     (c.interpolated.ensures
     ∙ ap₂ (λ (x y : ℕ). chopped (k at) (product_sum (k at) x y low.result)) (lower (first-node (one-passed right))) (upper (second-node right))
-    ∙ ap (λ (x : ℕ). chopped (k at) (product_sum (k at) (lower_end (F at) (both at) (j at)) (upper_end (F at) (both at) (j at)) x)) low.ensures)
+    ∙ ap (λ (x : ℕ). chopped (k at) (product_sum (k at) (lower_end (k at) (both at) (j at)) (upper_end (k at) (both at) (j at)) x)) low.ensures)
     ∙ rw (lower-passes (one-passed right), upper-passes right)
 
 pub by-ends-spec : {M : Type 1} → statement M

@@ -12,15 +12,15 @@ use Rattle.reading.proofs.word_bytes.Statement.{statement}
 use Rattle.reading.proofs.word_bytes.Tie as tie
 
 -- where the part stands
-from : (c : tie.After-word-part) → c.word-part.result.offset ≡ shown_from c.before.before.args.format c.before.before.args.image.now c.before.before.args.j
+from : (c : tie.After-word-part) → c.word-part.result.offset ≡ shown_from c.before.before.args.k.0 c.before.before.args.image.now c.before.before.args.j
 from c = ap (λ (p : Part). p.offset) c.word-part.ensures
 
-counted : (c : tie.After-word-part) → c.word-part.result.count ≡ shown_count c.before.before.args.format c.before.before.args.image.now c.before.before.args.j
+counted : (c : tie.After-word-part) → c.word-part.result.count ≡ shown_count c.before.before.args.k.0 c.before.before.args.image.now c.before.before.args.j
 counted c = ap (λ (p : Part). p.count) c.word-part.ensures
 
 -- and that it lies within the image
 inside : (c : tie.After-word-part) → c.word-part.result.offset + c.word-part.result.count ≤ length c.before.before.args.image.now
-inside c = omega (arith, from c, counted c, shown-inside c.before.before.args.format c.before.before.args.image.now c.before.before.args.j)
+inside c = omega (arith, from c, counted c, shown-inside c.before.before.args.k.0 c.before.before.args.image.now c.before.before.args.j)
 
 word-part-requires : tie.Need-word-part-requires
 word-part-requires c κs = search rules
@@ -44,8 +44,8 @@ returns c =
     let first = at.word-part.result.offset in
     let span : first + at.word-part.result.count - first ≡ at.word-part.result.count = omega arith in (
       ap (λ (n : ℕ). take n (drop first s)) (span ∙ counted at)
-          ∙ ap (λ (n : ℕ). take (shown_count at.before.before.args.format s at.before.before.args.j) (drop n s)) (from at)
-          ∙ shown-taken at.before.before.args.format s at.before.before.args.j,
+          ∙ ap (λ (n : ℕ). take (shown_count at.before.before.args.k.0 s at.before.before.args.j) (drop n s)) (from at)
+          ∙ shown-taken at.before.before.args.k.0 s at.before.before.args.j,
       (refl, ap (λ (n : ℕ). n + at.before.before.args.image.ptr.1) (from at)),
     )
 

@@ -8,9 +8,7 @@ use lib.ListN.{length}
 use lib.Pow.{pow_mono}
 use borrow.Author.Rules.{rules}
 use borrow.Author.Tests.{le-ltb}
-use Rattle.format.specs.Format.{precision_of, word_width, word_count}
-use Rattle.format.specs.declared.Format.{Format}
-use Rattle.format.proofs.Laws.{width-least, width-most, count_most}
+use Rattle.precision.specs.Precision.{word_width}
 use Rattle.packing.specs.Packing.{span_bytes}
 use Rattle.answers.specs.Answer.{part}
 use Rattle.nodes.specs.Inner.{quotients_of}
@@ -22,41 +20,40 @@ use Rattle.reading.proofs.word_part.Statement.{statement}
 use Rattle.reading.proofs.word_part.Tie as tie
 
 -- behind the test of the limits both are kept
-limit : (c : tie.Else1) → refusal_number c.before.before.before.args.format (length c.before.before.before.args.image.now) ≡ 0
+limit : (c : tie.Else1) → refusal_number c.before.before.before.args.k.0 (length c.before.before.before.args.image.now) ≡ 0
 limit c = sym c.before.refusal-number.ensures ∙ c.if1.false
 
-kept : (c : tie.Else1) → ImageKept c.before.before.before.args.format c.before.before.before.args.image.now
-kept c = limit-kept c.before.before.before.args.format c.before.before.before.args.image.now (limit c)
+kept : (c : tie.Else1) → ImageKept c.before.before.before.args.k.0 c.before.before.before.args.image.now
+kept c = limit-kept c.before.before.before.args.k.0 c.before.before.before.args.image.now (limit c)
 
--- the table is that of the format
-table : (c : tie.After-table) → c.table.result ≡ quotients_of c.before.before.before.before.args.format
+-- the table is that of k
+table : (c : tie.After-table) → c.table.result ≡ quotients_of c.before.before.before.before.args.k.0
 table c = c.table.ensures ∙ (kept c.before).numbers
 
-counted : (c : tie.After-table) → c.table.result.count ≡ word_count c.before.before.before.before.args.format
+counted : (c : tie.After-table) → c.table.result.count ≡ 2 ^ c.before.before.before.before.args.k.0
 counted c = ap (λ (t : Quotients). t.count) (table c)
 
 -- how many bytes hold a word
-span : (w j : ℕ) → 1 ≤ w → (j * w + w + 7) / 8 - j * w / 8 ≡ span_bytes w j
-span w j h = omega (arith, h)
+span : (k j : ℕ) → (j * (2 * k + 2) + (2 * k + 2) + 7) / 8 - j * (2 * k + 2) / 8 ≡ span_bytes (word_width k) j
+span k j = omega arith
 
 -- what is known of word j where its bytes are shown
-record There (F : Format) (j width : ℕ) : Type 0 where
-  below : j < word_count F
-  narrow : width ≡ word_width F
-  few : width ≤ 28
-  bits : j * width ≤ 4096 * 28
+record There (k j width : ℕ) : Type 0 where
+  below : j < 2 ^ k
+  narrow : width ≡ 2 * k + 2
+  bits : j * width ≤ 4096 * 26
 
-there : (c : tie.Else2) → There c.before.before.before.before.before.before.args.format c.before.before.before.before.before.before.args.j c.before.before.table.result.width
+there : (c : tie.Else2) → There c.before.before.before.before.before.before.args.k.0 c.before.before.before.before.before.before.args.j c.before.before.table.result.width
 there c =
     let at = c.before.before in
-    let F = at.before.before.before.before.args.format in
+    let k = at.before.before.before.before.args.k.0 in
     let j = at.before.before.before.before.args.j in
     let ok = kept at.before in
-    let l : j < word_count F = omega (arith, counted at, c.if2.false) in
-    let m : j ≤ 4096 = omega (arith, l, pow_mono ok.high, count_most F.form (precision_of F)) in
-    let n : word_width F ≤ 28 = omega (arith, ok.high, width-most F.form (precision_of F)) in
+    let l : j < 2 ^ k = omega (arith, counted at, c.if2.false) in
+    let m : j ≤ 4096 = omega (arith, pow_mono ok.high) in
+    let n : 2 * k + 2 ≤ 26 = omega (arith, ok.high) in
     let width = ap (λ (t : Quotients). t.width) (table at) in
-    record { below = l; narrow = width; few = rw width n; bits = rw width (mul-le-mul m n) }
+    record { below = l; narrow = width; bits = rw width (mul-le-mul m n) }
 
 refusal-number-requires : tie.Need-refusal-number-requires
 refusal-number-requires c κs = search rules
@@ -66,9 +63,9 @@ no-bytes-requires c κs = search rules
 
 returns : tie.Need-returns
 returns c =
-    let F = c.before.before.before.before.args.format in
+    let k = c.before.before.before.before.args.k.0 in
     let s = c.before.before.before.before.args.image.now in
-    rw (limit-applies F s (λ e. omega (arith, c.before.if1.true, c.before.before.refusal-number.ensures, e))) c.no_bytes.ensures
+    rw (limit-applies k s (λ e. omega (arith, c.before.if1.true, c.before.before.refusal-number.ensures, e))) c.no_bytes.ensures
 
 table-requires : tie.Need-table-requires
 table-requires c κs = search rules
@@ -80,23 +77,23 @@ returns-2 : tie.Need-returns-2
 returns-2 c =
     let made = c.before.before.before in
     let at = made.before in
-    let F = at.before.before.before.args.format in
+    let k = at.before.before.before.args.k.0 in
     let s = at.before.before.before.args.image.now in
     let j = at.before.before.before.args.j in
-    let past = le-ltb j (word_count F) (omega (arith, counted made, c.before.if2.true)) in
-    rw (limit-clear F s (limit at), past) c.no-bytes2.ensures
+    let past = le-ltb j (2 ^ k) (omega (arith, counted made, c.before.if2.true)) in
+    rw (limit-clear k s (limit at), past) c.no-bytes2.ensures
 
 cast-width : tie.Need-overflow-cast-width
 cast-width c = search rules
 
 mul-bit : tie.Need-overflow-mul-bit
-mul-bit c = let t = there c.before in omega (arith, t.few, t.bits)
+mul-bit c = let t = there c.before in omega (arith, t.narrow, t.bits)
 
 add-past : tie.Need-overflow-add-past
-add-past c = let t = there c.before in omega (arith, t.few, t.bits)
+add-past c = let t = there c.before in omega (arith, t.narrow, t.bits)
 
 add-past-2 : tie.Need-overflow-add-past-2
-add-past-2 c = let t = there c.before in omega (arith, t.few, t.bits)
+add-past-2 c = let t = there c.before in omega (arith, t.narrow, t.bits)
 
 sub-t10 : tie.Need-overflow-sub-t10
 sub-t10 c = search rules
@@ -104,12 +101,12 @@ sub-t10 c = search rules
 returns-3 : tie.Need-returns-3
 returns-3 c =
     let at = c.before.before.before.before in
-    let F = at.before.before.before.args.format in
+    let k = at.before.before.before.args.k.0 in
     let s = at.before.before.before.args.image.now in
     let j = at.before.before.before.args.j in
     let t = there c.before in
     ap (λ (w : ℕ). part (j * w / 8) ((j * w + w + 7) / 8 - j * w / 8)) t.narrow
-    ∙ ap₂ part (sym (shown-from F s j (kept at) t.below)) (span (word_width F) j (omega (arith, width-least F.form (precision_of F))) ∙ sym (shown-count F s j (kept at) t.below))
+    ∙ ap₂ part (sym (shown-from k s j (kept at) t.below)) (span k j ∙ sym (shown-count k s j (kept at) t.below))
 
 pub word-part-spec : {M : Type 1} → statement M
 word-part-spec =

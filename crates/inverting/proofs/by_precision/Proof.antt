@@ -1,18 +1,17 @@
--- `inverting::in_plain_words` meets its contract: in each arm the precision is the number that is handed on. Assumes nothing.
+-- `inverting::by_precision` meets its contract: in each arm the precision is the number that is handed on. Assumes nothing.
 use mathlib.Core.Path.{◌≡◌, sym, ap, subst, ◌∙◌}
 use Prim.Native.Nat.{ℕ, ◌+◌, ◌%◌, ◌^◌}
-use Rattle.format.specs.Format.{plain_of}
 use Rattle.inverting.specs.Inner.{IsPieceOf, both_in, ends_outcome, outcome_of}
 use borrow.Author.Rules.{rules}
-use Rattle.inverting.proofs.in_plain_words.Statement.{statement}
-use Rattle.inverting.proofs.in_plain_words.Tie as tie
+use Rattle.inverting.proofs.by_precision.Statement.{statement}
+use Rattle.inverting.proofs.by_precision.Tie as tie
 
 -- in the arm of the number i
 module _ (c : tie.Start) (i : ℕ) (same : c.args.precision ≡ i) where
   -- what is answered for the number is answered for the precision
-  answer : (code : ℕ) → outcome_of code ≡ ends_outcome (plain_of i) (both_in (plain_of i) c.args.window) c.args.j (c.args.kept % 2 ^ (i + 3))
-      → outcome_of code ≡ ends_outcome (plain_of c.args.precision) (both_in (plain_of c.args.precision) c.args.window) c.args.j (c.args.kept % 2 ^ (c.args.precision + 3))
-  answer code e = e ∙ ap (λ (k : ℕ). ends_outcome (plain_of k) (both_in (plain_of k) c.args.window) c.args.j (c.args.kept % 2 ^ (k + 3))) (sym same)
+  answer : (code : ℕ) → outcome_of code ≡ ends_outcome i (both_in i c.args.window) c.args.j (c.args.kept % 2 ^ (i + 3))
+      → outcome_of code ≡ ends_outcome c.args.precision (both_in c.args.precision c.args.window) c.args.j (c.args.kept % 2 ^ (c.args.precision + 3))
+  answer code e = e ∙ ap (λ (k : ℕ). ends_outcome k (both_in k c.args.window) c.args.j (c.args.kept % 2 ^ (k + 3))) (sym same)
 
   -- and the piece of the precision is one of the number
   piece : IsPieceOf i c.args.j
@@ -96,8 +95,8 @@ by-ends-requires-12 c κs = piece c.before 12 c.match.keys12
 by-ends-requires-13 : tie.Need-by-ends-requires-13
 by-ends-requires-13 c κs = search rules
 
-pub in-plain-words-spec : {M : Type 1} → statement M
-in-plain-words-spec =
+pub by-precision-spec : {M : Type 1} → statement M
+by-precision-spec =
     tie.close
     (tie.spec
     by-ends-requires
