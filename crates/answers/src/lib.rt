@@ -1,4 +1,6 @@
 // What a call answers: the number of a refusal or 0, its place, and the value of a served call.
+#![tactic(auto)]
+
 use units::{TableUnits, Ulps};
 
 // The answer of the builder and of the check, whose value is always 0.

@@ -1,4 +1,6 @@
 // A bound table: a lent image and its precision, kept together for many operands.
+#![tactic(auto)]
+
 ghost use Rattle.std.specs.Prelude.{◌≡◌};
 ghost use Rattle.answers.specs.Answer.{node_read, reciprocal_given};
 ghost use Rattle.image.specs.Calls.{node_outcome};

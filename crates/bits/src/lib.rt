@@ -1,4 +1,6 @@
 // Shifts in plain arithmetic, for any count of bits.
+#![tactic(auto)]
+
 ghost use Rattle.std.specs.Prelude.{◌≡◌};
 ghost use Rattle.bits.specs.Inner.{high_bits, low_bits, padded_bits, power_or_0};
 

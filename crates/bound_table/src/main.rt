@@ -1,4 +1,6 @@
 // Makes one bound table and uses it for two operands and a node: with the image of precision 2, with a byte too few, and with a wrong word.
+#![tactic(auto)]
+
 ghost use Rattle.std.specs.Prelude.{◌≡◌};
 ghost use Rattle.bound_table.specs.Asked.{asked};
 

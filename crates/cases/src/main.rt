@@ -22,6 +22,8 @@
 //     around K N X COUNT STEP (the same with both neighbours of each operand: one less, itself, one more)
 //     through K N X COUNT STEP (the same as `invert`, through a bound table)
 // A line whose first word is no command, such as one that begins with '#', is printed alone.
+#![tactic(auto)]
+
 mod buffers;
 mod calls;
 mod print;

@@ -1,4 +1,6 @@
 // Checking an image against the construction, and what stands behind it.
+#![tactic(auto)]
+
 ghost use Rattle.std.specs.Prelude.{◌≡◌};
 ghost use Rattle.answers.specs.Answer.{done};
 ghost use Rattle.layout.specs.Layout.{first_wrong};

@@ -1,4 +1,6 @@
 // Decimal digits: numbers read from them and written as them, and pieces of text written at a place of a lent buffer.
+#![tactic(auto)]
+
 ghost use Rattle.std.specs.Prelude.{◌≡◌, ◌+◌, ◌≤◌, length};
 ghost use Rattle.decimal.specs.Text.{written};
 ghost use Rattle.decimal.specs.Inner.{has_room, put_into, place_after};

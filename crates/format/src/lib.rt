@@ -1,5 +1,7 @@
 // The description of the table that a call is asked for: its precision, and the form of its words; and what follows from it, the width and the number of
 // the words and the length of the image.
+#![tactic(auto)]
+
 ghost use Rattle.std.specs.Prelude.{◌≡◌};
 ghost use Rattle.precision.specs.Precision.{greatest};
 ghost use Rattle.format.specs.Format.{plain_of, full_of, form_of, format_of, image_length, length_or_0, word_width, words_or_0};

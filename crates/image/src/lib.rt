@@ -1,5 +1,7 @@
 // The image of a precision: what it is stands in specs/, and here are the limits that every call on an image tests first, and the image's own bytes in
 // a buffer.
+#![tactic(auto)]
+
 ghost use Rattle.std.specs.Prelude.{◌≡◌};
 ghost use Rattle.image.specs.Inner.{refusal_number, own_bytes};
 

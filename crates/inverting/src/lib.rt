@@ -1,4 +1,6 @@
 // The reciprocal of an operand by an image.
+#![tactic(auto)]
+
 ghost use Rattle.std.specs.Prelude.{◌≡◌, ◌+◌, ◌/◌, ◌%◌, ◌^◌};
 ghost use Rattle.answers.specs.Answer.{reciprocal_given};
 ghost use Rattle.interpolation.specs.Algorithm.{sum_over};

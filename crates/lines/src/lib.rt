@@ -1,4 +1,6 @@
 // Lines of text for programs: a number read from a line, a number written with a byte behind it, and the line of a refusal.
+#![tactic(auto)]
+
 ghost use Rattle.std.specs.Prelude.{◌≡◌};
 ghost use Rattle.decimal.specs.Inner.{put_into, place_after};
 ghost use Rattle.lines.specs.Lines.{line_reading, field, refused_text};

@@ -1,4 +1,6 @@
 // The nodes of a table: their values, the numbers by which their words are made and judged, and what a word stands for.
+#![tactic(auto)]
+
 mod eight;
 
 ghost use Rattle.std.specs.Prelude.{◌≡◌};

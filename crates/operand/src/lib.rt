@@ -1,4 +1,6 @@
 // An operand X with n fraction bits: the limits that it must keep, and how it is cut for the table.
+#![tactic(auto)]
+
 ghost use Rattle.std.specs.Prelude.{◌≡◌};
 ghost use Rattle.operand.specs.Operand.{is_fraction_count, least_bits, most_bits};
 ghost use Rattle.operand.specs.Inner.{cut_fraction, operand_number};

@@ -1,4 +1,6 @@
 // Words of any width packed into bytes: how many they take, any bits of them read back, eight bytes at a time, and, in `writing`, words written.
+#![tactic(auto)]
+
 mod writing;
 
 ghost use Rattle.std.specs.Prelude.{◌≡◌, ◌+◌, ◌-◌, ◌<◌, ◌≤◌, length, slice_index};

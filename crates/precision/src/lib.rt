@@ -1,9 +1,11 @@
 // The notion of a precision: its limits, the width of a word and the length of an image.
+#![tactic(auto)]
+
 ghost use Rattle.std.specs.Prelude.{◌≡◌};
 ghost use Rattle.precision.specs.Precision.{least, greatest, longest_image, in_range, word_width, length_or_0, words_or_0};
 
 // A precision as it is asked for. Any number can be asked for; 1 to 12 are served.
-#[derive(Drop)]
+#[derive(Clone, Copy)]
 pub struct Precision(pub u32);
 
 // The image lengths of precisions 1 to 12, at k - 1.
@@ -20,8 +22,8 @@ impl Precision {
     // Whether this is a precision, from LEAST to GREATEST.
     pub fn in_range(self) -> bool
         ensures value { result ≡ in_range self.0 }
-        ensures* do_value { do ⌜ (← (⟦Precision::LEAST⟧).entry) ≡ least ⌝ }
-        ensures* do_value_2 { do ⌜ (← (⟦Precision::GREATEST⟧).entry) ≡ greatest ⌝ }
+        ensures least { Precision.LEAST ≡ least }
+        ensures greatest { Precision.GREATEST ≡ greatest }
     {
         let k = self.0;
         if k < Precision::LEAST {
@@ -51,7 +53,7 @@ impl Precision {
     // The bytes of the image, 0 where this is no precision.
     pub fn image_length(self) -> usize
         ensures value { result ≡ length_or_0 self.0 }
-        ensures* do_value { do ⌜ (← (⟦Precision::LONGEST_IMAGE⟧).entry) ≡ longest_image ⌝ }
+        ensures longest { Precision.LONGEST_IMAGE ≡ longest_image }
     {
         let k = self.0;
         if k < Precision::LEAST {

@@ -1,4 +1,6 @@
 // Prints the table of the precision that standard input requests, or the refusal.
+#![tactic(auto)]
+
 use libc::{STDIN_FILENO, STDOUT_FILENO};
 
 // Sixteen bytes of the input are read: eleven settle which precision is requested.

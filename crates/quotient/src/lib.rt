@@ -1,4 +1,6 @@
 // A quotient rounded up to a whole number, a test of one by a product alone, and the quotient by way of a guess.
+#![tactic(auto)]
+
 ghost use Rattle.std.specs.Prelude.{◌≡◌};
 ghost use Rattle.quotient.specs.Quotient.{rounded_up};
 ghost use Rattle.quotient.specs.Inner.{numerator_bits, rounds_up};

@@ -1,4 +1,6 @@
 // Reading an image: the value of one node, and the bytes that hold one word.
+#![tactic(auto)]
+
 ghost use Rattle.std.specs.Prelude.{◌≡◌, ◌+◌};
 ghost use Rattle.answers.specs.Answer.{node_read, part};
 ghost use Rattle.image.specs.Calls.{node_outcome, shown_part, shown_from, shown_count};

@@ -2,3 +2,4 @@
 // image and reciprocal), proofs/Demand3.antt (the bound of the reciprocal) and proofs/Printed.antt (the printed table) are to be read first.
 // Each speaks of the definitions that the contracts of the calls cite. The set examples stand in specs/Examples.antt, and
 // proofs/Examples.antt has the statement that covers them.
+#![tactic(auto)]

@@ -1,4 +1,6 @@
 // The printed table of a precision, as text in a lent buffer.
+#![tactic(auto)]
+
 ghost use Rattle.std.specs.Prelude.{◌≡◌, true, ◌++◌, ◌+◌, ◌^◌, ◌≤◌, length};
 ghost use Rattle.decimal.specs.Inner.{Wrote};
 ghost use Rattle.precision.specs.Precision.{in_range};

@@ -1,4 +1,6 @@
 // The tail of a buffer, what stands behind the words of an image: zeros written there, and the lowest byte found there that has a one.
+#![tactic(auto)]
+
 ghost use Rattle.std.specs.Prelude.{◌≡◌, ◌+◌, ◌*◌, ◌≤◌, length};
 ghost use Rattle.tail.specs.Tail.{first_one_from};
 ghost use Rattle.tail.specs.Inner.{cleared_from, IsZero, Passed};

@@ -1,4 +1,5 @@
 // The two units of the product, as types of their own: neither is taken for the other.
+#![tactic(auto)]
 
 // A count of table units of 1 / 2^(2k+3): what a node's value is counted in.
 #[repr(C)]

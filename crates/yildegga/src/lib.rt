@@ -1,5 +1,7 @@
 // The library for C and Rust: its calls under one prefix, over plain numbers and lent bytes. Each promises of its answer and of the lent bytes what
 // the call beneath it does.
+#![tactic(auto)]
+
 ghost use Rattle.std.specs.Prelude.{◌≡◌};
 ghost use Rattle.answers.specs.Answer.{done, node_read, reciprocal_given, part};
 ghost use Rattle.precision.specs.Precision.{length_or_0};

@@ -1,5 +1,7 @@
 // The calls through a bound table for C, so that what they compile to can be compared and measured. They stand apart from the plain calls: in a
 // library of their own the compiler has one caller of each call, and makes it one piece with the call beneath.
+#![tactic(auto)]
+
 ghost use Rattle.std.specs.Prelude.{◌≡◌};
 ghost use Rattle.answers.specs.Answer.{node_read, reciprocal_given};
 ghost use Rattle.image.specs.Calls.{node_outcome};

@@ -1,0 +1,30 @@
+-- `packing::gather` meets its contract. The loop's invariant: the value is that of the bytes passed, 8 bits for each of them.
+-- The measure is what is left of the bytes. Assumes nothing.
+use Rattle.std.proofs.Common.{◌≡◌, ℕ, ◌+◌, ◌-◌, ◌*◌, ◌^◌, ◌<◌, ◌≤◌, get_or, sym, ap, ◌∙◌, arith, pow_pos, pow_mono}
+use native.Mathlib.Nat.{sub_self}
+use Rattle.packing.specs.Packing.{bytes_value}
+use Rattle.packing.proofs.Bytes.{value-step, value-step-lt}
+use Rattle.packing.proofs.gather.Goals as goal
+
+pub overflow_mul-value : goal.overflow_mul-value
+overflow_mul-value c =
+    let h : 8 * (c.loop-at.at - c.args.first) ≤ 56 = omega arith in
+    omega (arith, pow_mono h)
+
+pub overflow_add-value : goal.overflow_add-value
+overflow_add-value c =
+    let h : 8 * (c.loop-at.at - c.args.first) ≤ 56 = omega arith in
+    omega (arith, pow_mono h, c.shared_slice_known-1.given c.loop-at.at)
+
+pub loop-at-preserved : goal.loop-at-preserved
+loop-at-preserved c =
+    let s = c.args.s.now in
+    let first = c.args.first in
+    let at = c.loop-at.at in
+    let value = c.loop-at.value in
+    let inv = c.loop-at.invariant in (
+      omega arith,
+      omega arith,
+      ap (λ (x : ℕ). x * 256 + get_or s at 0) inv.2 ∙ sym (value-step s first at inv.0),
+      value-step-lt value (get_or s at 0) first at inv.0 inv.3 (omega (arith, c.shared_slice_known-1.given at)),
+    )
