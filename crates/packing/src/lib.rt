@@ -73,7 +73,7 @@ pub fn window(s: &[u8], from: u64) -> u64
 // The number that the `width` bits from bit `from` on make, 0 where they are more than WIDEST. Bytes past the end count as 0.
 pub fn field(s: &[u8], from: u64, width: u32) -> u64
     ensures value { result ≡ field_read s.now from width }
-    ensures value_2 { WIDEST ≡ widest }
+    ensures widest_value { WIDEST ≡ widest }
 {
     if WIDEST < width {
         return 0;

@@ -1,9 +1,7 @@
 -- `packing::gather` meets its contract. The loop's invariant: the value is that of the bytes passed, 8 bits for each of them.
 -- The measure is what is left of the bytes. Assumes nothing.
-use Rattle.std.proofs.Common.{◌≡◌, ℕ, ◌+◌, ◌-◌, ◌*◌, ◌^◌, ◌<◌, ◌≤◌, get_or, sym, ap, ◌∙◌, arith, pow_pos, pow_mono}
-use native.Mathlib.Nat.{sub_self}
+use Rattle.std.proofs.Common.{◌≡◌, ◌-◌, ◌*◌, ◌^◌, ◌<◌, ◌≤◌}
 use Rattle.packing.specs.Packing.{bytes_value}
-use Rattle.packing.proofs.Bytes.{value-step, value-step-lt}
 use Rattle.packing.proofs.gather.Given as goal
 
 abbrev pub invariant-loop-at : goal.invariant-loop-at

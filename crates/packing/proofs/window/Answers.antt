@@ -1,6 +1,6 @@
 -- `packing::window` meets its contract: eight bytes, or those that are there and zeros behind them, moved up past the bits before. Assumes nothing.
-use Rattle.std.proofs.Common.{ℕ, ◌+◌, ◌-◌, ◌*◌, ◌/◌, ◌%◌, ◌^◌, length, sym, ap, ◌∙◌, arith, rules}
-use Rattle.packing.proofs.Fields.{window-near, window-past}
+use Rattle.std.proofs.Common.{ℕ, ◌+◌, ◌-◌, ◌*◌, ◌/◌, ◌%◌, ◌^◌, length, ap, ◌∙◌, arith}
+use Rattle.packing.proofs.Fields.{window-near}
 use Rattle.packing.proofs.window.Goals as goal
 
 pub returns : goal.returns

@@ -1,16 +1,11 @@
 -- `packing::finish` meets its contract: the bits that wait stand at the top of 64, and each turn stores the highest byte of what is left of them. The
 -- measure is the number of bytes to come.
 -- Assumes nothing.
-use Rattle.std.proofs.Common.{◌≡◌, ℕ, ◌+◌, ◌-◌, ◌*◌, ◌/◌, ◌%◌, ◌^◌, ◌≤◌, List, length, set, sym, refl, ap, ◌∙◌, ap₂, arith, rules, le-leb}
-use borrow.Author.Tests.{lt-leb}
+use Rattle.std.proofs.Common.{◌≡◌, ℕ, ◌+◌, ◌-◌, ◌*◌, ◌/◌, ◌%◌, ◌^◌, List, length, set, sym, ap, ◌∙◌, ap₂, arith, le-leb}
 use Rattle.packing.specs.Packing.{bytes_taken}
 use Rattle.packing.specs.Writing.{stored, wait_from}
-use Rattle.packing.proofs.Storing.{length-stored, stored-none, stored_more, rest_more, stored-top}
+use Rattle.packing.proofs.Storing.{stored_more, rest_more, stored-top}
 use Rattle.packing.proofs.writing.finish.Goals as goal
-
--- in the loop all bytes have room, and the buffer has its length
-fits : (c : tie.At-loop invariant-loop decreases-loop) → bytes_taken c.before.before.before.before.before.before.args.w.place ≤ length c.before.before.before.before.before.before.args.image.now
-fits c = omega (arith, c.before.before.if1.false)
 
 pub loop-at-preserved : goal.loop-at-preserved
 loop-at-preserved c =
@@ -26,22 +21,20 @@ loop-at-preserved c =
       ap (λ (x : ℕ). x * 256 % 2 ^ 64) inv.2 ∙ rest_more a.image.now first v m ∙ ap (λ (x : ℕ). v * 2 ^ (8 * x) % 2 ^ 64) (sym more),
       ap₂ (λ (l : List ℕ) (x : ℕ). set l c.loop-at.at (x / 72057594037927936)) inv.3 inv.2
           ∙ ap (λ (i : ℕ). set (stored a.image.now first m (v / 2 ^ (64 - 8 * m))) i (v * 2 ^ (8 * m) % 2 ^ 64 / 72057594037927936)) there
-          ∙ stored_more a.image.now first v m (omega (arith, c.loop-at-test.true)) (omega (arith, there, c.loop-at-test.true, fits c))
+          ∙ stored_more a.image.now first v m (omega (arith, c.loop-at-test.true)) (omega (arith, there, c.loop-at-test.true))
           ∙ ap (λ (x : ℕ). stored a.image.now first x (v / 2 ^ (64 - 8 * x))) (sym more),
     )
 
-pub returns : goal.returns
-returns c =
+pub returns-clause-image_after : goal.returns-clause-image_after
+returns-clause-image_after c =
     let inv = c.loop-at.invariant in
     let a = c.args in
     let first = wait_from a.w.place in
     let n = bytes_taken (a.w.place % 64) in
     let v = c.padded-rest.result in
-    let all : c.loop-at.at - first ≡ n = omega (arith, inv.0, inv.1, c.loop-at-test.false) in (
-      omega arith,
-      rw (le-leb (bytes_taken a.w.place) (length a.image.now) (omega (arith, fits c)))
-          (inv.3
-          ∙ ap (λ (m : ℕ). stored a.image.now first m (v / 2 ^ (64 - 8 * m))) all
-          ∙ ap (λ (x : ℕ). stored a.image.now first n (x / 2 ^ (64 - 8 * n))) c.padded-rest.ensures
-          ∙ stored-top a.image.now first a.w.waiting (a.w.place % 64) n (omega arith) (omega arith)),
-    )
+    let all : c.loop-at.at - first ≡ n = omega (arith, inv.0, inv.1, c.loop-at-test.false) in
+    rw (le-leb (bytes_taken a.w.place) (length a.image.now) (omega arith))
+    (inv.3
+    ∙ ap (λ (m : ℕ). stored a.image.now first m (v / 2 ^ (64 - 8 * m))) all
+    ∙ ap (λ (x : ℕ). stored a.image.now first n (x / 2 ^ (64 - 8 * n))) c.padded-rest.ensures
+    ∙ stored-top a.image.now first a.w.waiting (a.w.place % 64) n (omega arith) (omega arith))

@@ -1,11 +1,8 @@
 -- `packing::finish` meets its contract: the bits that wait stand at the top of 64, and each turn stores the highest byte of what is left of them. The
 -- measure is the number of bytes to come.
 -- Assumes nothing.
-use Rattle.std.proofs.Common.{◌≡◌, ℕ, ◌+◌, ◌-◌, ◌*◌, ◌/◌, ◌%◌, ◌^◌, ◌≤◌, List, length, set, sym, refl, ap, ◌∙◌, ap₂, arith, rules, le-leb}
-use borrow.Author.Tests.{lt-leb}
-use Rattle.packing.specs.Packing.{bytes_taken}
-use Rattle.packing.specs.Writing.{stored, wait_from}
-use Rattle.packing.proofs.Storing.{length-stored, stored-none, stored_more, rest_more, stored-top}
+use Rattle.std.proofs.Common.{◌≡◌, ◌-◌, ◌*◌, ◌/◌, ◌%◌, ◌^◌, ◌≤◌}
+use Rattle.packing.specs.Writing.{stored}
 use Rattle.packing.proofs.writing.finish.Given as goal
 
 abbrev pub invariant-loop-at : goal.invariant-loop-at

@@ -1,7 +1,7 @@
 -- `packing::store_eight` meets its contract: a store keeps the buffer's length, so that each of the eight lies within it, and in a row they are the
 -- bytes of the number.
 -- Assumes nothing.
-use Rattle.std.proofs.Common.{ℕ, ◌+◌, List, ◌++◌, take, drop, sym, ap, ◌∙◌, append_assoc, arith, length-set, rules}
+use Rattle.std.proofs.Common.{ℕ, ◌+◌, List, ◌++◌, take, drop, sym, ap, ◌∙◌, append_assoc, arith}
 use native.Mathlib.Numerals.{unary_clauses}
 use lib.Seq.{sets-eq}
 use Rattle.packing.proofs.Storing.{eight_bytes, to_bytes-eight}
