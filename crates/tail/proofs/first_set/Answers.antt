@@ -12,8 +12,7 @@ use Rattle.bools.proofs.Lowest.{lowest-is, lowest-none}
 use Rattle.tail.specs.Tail.{has_one_from, first_one_from}
 use Rattle.tail.specs.Inner.{IsZero}
 use Rattle.tail.proofs.Laws.{byte-before, byte-zero, set-one, zero-none, zero-then, zero-next}
-use Rattle.tail.proofs.first_set.Statement.{statement}
-use Rattle.tail.proofs.first_set.Tie as tie
+use Rattle.tail.proofs.first_set.Goals as goal
 
 module _ (s : List ℕ) (from r : ℕ) (zero : IsZero s from r) where
   -- no byte up to there has a one behind the bits of the bytes before the first
@@ -28,34 +27,22 @@ module _ (s : List ℕ) (from r : ℕ) (zero : IsZero s from r) where
       (λ g. let all : r ≡ length s = omega (arith, end, g) in all ∙ sym (lowest-none (has_one_from (8 * from) s) (length s) (λ i h. none_before i (omega (arith, h, g)))))
       (below_or_not r (length s))
 
-returns : tie.Need-returns
+pub returns-then-s-from : goal.returns-then-s-from
+returns-then-s-from c =
+    let a = c.args in
+    sym (lowest-none (has_one_from (8 * a.from) a.s.now) (length a.s.now) (λ i h. byte-before (8 * a.from) a.s.now i (omega (arith, h, c.if-s-from.true))))
+
+pub returns : goal.returns
 returns c =
-    let a = c.before.before.args in
-    sym (lowest-none (has_one_from (8 * a.from) a.s.now) (length a.s.now) (λ i h. byte-before (8 * a.from) a.s.now i (omega (arith, h, c.if1.true))))
-
-passed-requires : tie.Need-passed-requires
-passed-requires c κs = (omega arith, omega (arith, c.if1.false))
-
-passed-requires-2 : tie.Need-passed-requires-2
-passed-requires-2 c κs = (omega arith, c.passed.ensures.end)
-
-passed-requires-3 : tie.Need-passed-requires-3
-passed-requires-3 c κs = (omega arith, c.passed2.ensures.end)
-
-returns-2 : tie.Need-returns-2
-returns-2 c =
-    let a = c.before.before.before.before.before.args in
+    let a = c.args in
     let s = a.s.now in
-    let large = c.before.before.passed in
-    let small = c.before.passed2 in
-    let last = c.passed3 in
+    let large = c.passed-large in
+    let small = c.passed-small in
+    let last = c.passed in
     let r = last.result in
     lowest-there s a.from r
     (zero-then s a.from small.result r (zero-then s a.from large.result small.result large.ensures.zero small.ensures.zero) last.ensures.zero)
     (omega (arith, large.ensures.start, small.ensures.start, last.ensures.start))
     last.ensures.end
-    (omega (arith, c.before.before.before.before.shared-slice-known.given r))
+    (omega (arith, c.type_inv.s r))
     (λ l e. last.ensures.next (omega (arith, l)) (zero-next s r r (zero-none s r r (omega arith)) e))
-
-pub first-set-spec : {M : Type 1} → statement M
-first-set-spec = tie.close (tie.spec returns passed-requires passed-requires-2 passed-requires-3 returns-2)
