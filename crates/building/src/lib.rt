@@ -30,9 +30,9 @@ fn guess(dividend: f64, divisor: f64) -> u32
 fn put_word(image: &mut [u8], w: Writer, table: Quotients, i: u32, guess: u32) -> Writer
     requires can_fill { CanFill table (length image.old) × IsDivisor table i }
     requires place_value { w.place ≡ (i - table.first) * table.width }
-    ensures value { result ≡ taken_in w table.width (rounded_up table.numerator i) }
+    ensures writer { result ≡ taken_in w table.width (rounded_up table.numerator i) }
     ensures image_after { image.new ≡ put_bytes image.old w table.width (rounded_up table.numerator i) }
-    ensures place_value_2 { result.place ≡ (i + 1 - table.first) * table.width }
+    ensures place_after { result.place ≡ (i + 1 - table.first) * table.width }
 {
     packing::put(
         image,
@@ -46,9 +46,9 @@ fn put_word(image: &mut [u8], w: Writer, table: Quotients, i: u32, guess: u32) -
 // double, for the guesses. The bit place is count × width at the end, and what waits then is left to `finish`.
 fn fill(image: &mut [u8], table: Quotients) -> Writer
     requires { CanFill table (length image.old) }
-    ensures value { result ≡ writer_before table.width (quotients table) table.count }
-    ensures image_after { image.new ≡ bytes_before table.width (quotients table) image.old table.count }
-    ensures place_value { result.place ≡ table.count * table.width }
+    ensures writer { result ≡ writer_before table.width (quotients table) table.count }
+    ensures bytes { image.new ≡ bytes_before table.width (quotients table) image.old table.count }
+    ensures place_after { result.place ≡ table.count * table.width }
 {
     let past = table.first + table.count;
     let dividend = table.numerator as f64;

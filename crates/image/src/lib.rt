@@ -26,9 +26,9 @@ pub fn refusal_number(k: Precision, length: usize) -> u32
 // no byte past the image is taken for a part of one; only the check looks at what follows, by the crate `tail`. The promise has the bytes, and that
 // they stand where the buffer does.
 pub fn own_bytes(k: Precision, image: &[u8]) -> &[u8]
-    ensures result_value { result.now ≡ own_bytes k.0 image.now }
-    ensures ref_ptr_value { result.ref_ptr.0 ≡ image.entry.ref_ptr.0 }
-    ensures ref_ptr_value_2 { result.ref_ptr.1 ≡ image.entry.ref_ptr.1 }
+    ensures bytes { result.now ≡ own_bytes k.0 image.now }
+    ensures same_buffer { result.ref_ptr.0 ≡ image.entry.ref_ptr.0 }
+    ensures same_place { result.ref_ptr.1 ≡ image.entry.ref_ptr.1 }
 {
     if refusal_number(k, image.len()) != 0 {
         return &image[..0];

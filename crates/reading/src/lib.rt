@@ -88,9 +88,9 @@ pub fn word_part(k: Precision, image: &[u8], j: u32) -> Part
 // The bytes of the image that hold the word of node j, or an empty part. The word is not judged. The promise has the bytes, and where in the
 // caller's image they stand: its memory, and the first byte's place in it.
 pub fn word_bytes(k: Precision, image: &[u8], j: u32) -> &[u8]
-    ensures result_value { result.now ≡ shown_part k.0 image.now j }
-    ensures ref_ptr_value { result.ref_ptr.0 ≡ image.entry.ref_ptr.0 }
-    ensures ref_ptr_value_2 { result.ref_ptr.1 ≡ shown_from k.0 image.now j + image.entry.ref_ptr.1 }
+    ensures bytes { result.now ≡ shown_part k.0 image.now j }
+    ensures same_buffer { result.ref_ptr.0 ≡ image.entry.ref_ptr.0 }
+    ensures at_place { result.ref_ptr.1 ≡ shown_from k.0 image.now j + image.entry.ref_ptr.1 }
 {
     let part = word_part(k, image, j);
     let first = part.offset;

@@ -1,0 +1,18 @@
+-- `operand::cut` meets its contract: a shift up by what n leaves of 64 bits, and one down by what s leaves.
+-- Assumes nothing.
+use mathlib.Core.Path.{refl, ap, ◌∙◌}
+use Prim.Native.Nat.{ℕ, ◌-◌, ◌/◌, ◌^◌, ◌≤◌}
+use native.Mathlib.Omega.{arith}
+use borrow.Author.Tests.{le-leb}
+use Rattle.operand.proofs.Laws.{cut-shifted}
+use Rattle.operand.proofs.cut.Goals as goal
+
+pub returns : goal.returns
+returns c =
+    let a = c.args in
+    let few : a.n ≤ 63 = omega (arith, c.if-n-gt-MOST_BITS.false) in
+    let few-kept : a.s ≤ 63 = omega (arith, c.if-s-gt-MOST_BITS.false) in
+    c.high.ensures
+    ∙ ap (λ (x : ℕ). x / 2 ^ (64 - a.s)) c.padded.ensures
+    ∙ cut-shifted a.s a.n 64 a.x (omega (arith, few)) (omega (arith, few-kept))
+    ∙ rw (le-leb a.n 63 few, le-leb a.s 63 few-kept) refl
