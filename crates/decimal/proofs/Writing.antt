@@ -1,7 +1,7 @@
 -- Laws of text written at a place: its length, pieces written one after the other, and one byte as a store.
 -- Assumes nothing.
 use mathlib.Core.Path.{◌≡◌, refl, sym, ap, ◌∙◌}
-use mathlib.Core.Bool.{Bool, true, false, not}
+use mathlib.Core.Bool.{Bool, true, false}
 use mathlib.Core.List.{List, [], ◌∷◌, ◌++◌, append_assoc, append-nil}
 use Prim.Native.Nat.{ℕ, ◌+◌, ◌≤◌, ◌<◌}
 use native.Mathlib.Nat.{add_assoc, add-zero}
@@ -9,7 +9,7 @@ use native.Mathlib.Numerals.{add-one}
 use native.Mathlib.Omega.{arith}
 use lib.ListN.{length, take, drop, set, length-append, length-drop, take-append-drop}
 use lib.Seq.{length-take-le, take_at, drop-append-add, drop-drop, set_split, paste, take-length, append_snoc}
-use borrow.Author.Tests.{le-leb, lt-leb, leb-true, leb-false, not-true, not-false}
+use borrow.Author.Tests.{le-leb, lt-leb, leb-true, leb-false}
 use Rattle.decimal.specs.Text.{written}
 use Rattle.decimal.specs.Inner.{has_room, put_into, place_after, Wrote}
 
@@ -58,11 +58,11 @@ paste-written s at t = rw take-length
 
 -- what a test of room says, where it passed and where it failed
 module _ (s : List ℕ) (at n : ℕ) {room : Bool} (e : room ≡ has_room s at n) where
-  pub room_fits : not room ≡ false → at + n ≤ length s
-  room_fits p = leb-true (at + n) (length s) (sym e ∙ not-false room p)
+  pub room_fits : room ≡ true → at + n ≤ length s
+  room_fits p = leb-true (at + n) (length s) (sym e ∙ p)
 
-  pub room-lacks : not room ≡ true → length s < at + n
-  room-lacks f = leb-false (at + n) (length s) (sym e ∙ not-true room f)
+  pub room-lacks : room ≡ false → length s < at + n
+  room-lacks f = leb-false (at + n) (length s) (sym e ∙ f)
 
 -- a call that asks for room for n bytes keeps its promise where it finds none and changes nothing, and where it finds it and writes its text
 module _ (s : List ℕ) (at n : ℕ) where

@@ -1,11 +1,8 @@
 -- `decimal::put` meets its contract, without room and with it.
 -- Assumes nothing.
-use mathlib.Core.Path.{refl}
 use native.Mathlib.Omega.{arith}
-use borrow.Author.Rules.{rules}
-use Rattle.decimal.specs.Decimal.{decimal, most_digits}
 use Rattle.decimal.proofs.Laws.{length-decimal}
-use Rattle.decimal.proofs.Writing.{room_fits, room-lacks, put-none, put_some}
+use Rattle.decimal.proofs.Writing.{room_fits}
 use Rattle.decimal.proofs.put.Goals as goal
 
 pub put_digits-requires : goal.put_digits-requires

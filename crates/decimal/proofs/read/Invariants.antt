@@ -1,11 +1,10 @@
 -- `decimal::read` meets its contract. The invariant: what is found from the value so far and the bytes that are left is what is found
 -- from all of s. The measure is what is left of the length. Assumes nothing.
-use mathlib.Core.Path.{◌≡◌, sym, ◌∙◌}
+use mathlib.Core.Path.{◌≡◌}
 use Prim.Native.Nat.{◌-◌, ◌^◌, ◌≤◌, ◌<◌}
-use native.Mathlib.Omega.{arith}
 use lib.ListN.{length, drop}
 use Rattle.decimal.specs.Reading.{reading}
-use Rattle.decimal.proofs.Steps.{reading_from, reading-none, reading-some, at-end, at_low, at_high, at-digit, at-over}
+use Rattle.decimal.proofs.Steps.{reading_from}
 use Rattle.decimal.proofs.read.Given as goal
 
 abbrev pub invariant-loop-at : goal.invariant-loop-at

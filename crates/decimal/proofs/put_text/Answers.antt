@@ -1,0 +1,28 @@
+-- `decimal::put_text` meets its contract. The invariant: the first i bytes of t stand at `at`. The measure is what is left of t.
+-- Assumes nothing.
+use mathlib.Core.Path.{◌≡◌, ap, ◌∙◌}
+use Prim.Native.Nat.{◌+◌}
+use native.Mathlib.Omega.{arith}
+use native.Mathlib.Numerals.{add-one}
+use lib.ListN.{length}
+use borrow.Author.Tests.{le-leb}
+use lib.Seq.{paste, paste-suc}
+use Rattle.decimal.proofs.Writing.{paste-written}
+use Rattle.decimal.proofs.put_text.Goals as goal
+
+pub loop-i-preserved : goal.loop-i-preserved
+loop-i-preserved c =
+    let a = c.args in
+    let l = c.loop-i in (
+      omega arith,
+      omega arith,
+      rw (l.invariant.2, add-one) (paste-suc a.out.now a.at a.t.now l.i 0 (omega arith) c.loop-i-test.true),
+    )
+
+pub returns-clause-out_after : goal.returns-clause-out_after
+returns-clause-out_after c =
+    let a = c.args in
+    let l = c.loop-i in
+    let e : l.i ≡ length a.t.now = omega arith in
+    rw (le-leb (a.at + length a.t.now) (length a.out.now) l.invariant.1)
+    (l.invariant.2 ∙ ap (paste a.out.now a.at a.t.now) e ∙ paste-written a.out.now a.at a.t.now)
