@@ -5,7 +5,7 @@ use units::{TableUnits, Ulps};
 
 // The answer of the builder and of the check, whose value is always 0.
 #[repr(C)]
-#[derive(Drop)]
+#[derive(Clone, Copy)]
 pub struct Done {
     pub number: u32,
     pub place: u64,
@@ -14,7 +14,7 @@ pub struct Done {
 
 // The answer of reading a node.
 #[repr(C)]
-#[derive(Drop)]
+#[derive(Clone, Copy)]
 pub struct NodeRead {
     pub number: u32,
     pub place: u64,
@@ -23,7 +23,7 @@ pub struct NodeRead {
 
 // The answer of the reciprocal.
 #[repr(C)]
-#[derive(Drop)]
+#[derive(Clone, Copy)]
 pub struct ReciprocalGiven {
     pub number: u32,
     pub place: u64,
@@ -32,7 +32,7 @@ pub struct ReciprocalGiven {
 
 // Where a part of the caller's image stands: `count` bytes from byte `offset` on.
 #[repr(C)]
-#[derive(Drop)]
+#[derive(Clone, Copy)]
 pub struct Part {
     pub offset: usize,
     pub count: usize,

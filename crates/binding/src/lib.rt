@@ -11,7 +11,7 @@ use answers::{NodeRead, ReciprocalGiven};
 use precision::Precision;
 
 // An image and its precision, of which nothing is asked: each call through the table judges both.
-#[derive(Drop)]
+#[derive(Clone, Copy)]
 pub struct BoundTable<'a> {
     pub k: Precision,
     pub image: &'a [u8],

@@ -9,7 +9,7 @@ use libc::STDOUT_FILENO;
 use precision::Precision;
 
 // What one table answers to two operands and the number of a node.
-#[derive(Drop)]
+#[derive(Clone, Copy)]
 struct Answers {
     first: ReciprocalGiven,
     second: ReciprocalGiven,

@@ -8,7 +8,7 @@ ghost use Rattle.decimal.specs.Decimal.{decimal, most_digits};
 ghost use Rattle.decimal.specs.Reading.{reading};
 
 // What reading a number finds: digits that stand for a number below 2^64, or anything else.
-#[derive(Drop)]
+#[derive(Clone, Copy)]
 pub enum Reading {
     Number(u64),
     Other,

@@ -9,7 +9,7 @@ ghost use Rattle.format.specs.Format.{plain_of, full_of, form_of, format_of, ima
 use precision::Precision;
 
 // How the words of an image hold the nodes.
-#[derive(Drop)]
+#[derive(Clone, Copy)]
 pub enum Form {
     // Words of 2k + 2 bits, which leave the leading one out, for the nodes below 2^k.
     Plain,
@@ -18,7 +18,7 @@ pub enum Form {
 }
 
 // A table as it is asked for. Any precision can be asked for; 1 to 12 are served.
-#[derive(Drop)]
+#[derive(Clone, Copy)]
 pub struct Format {
     pub precision: Precision,
     pub form: Form,
@@ -26,7 +26,7 @@ pub struct Format {
 
 // The same as C hands it over, in plain numbers: form 0 is plain, and any other number is full.
 #[repr(C)]
-#[derive(Drop)]
+#[derive(Clone, Copy)]
 pub struct FormatNumbers {
     pub precision: u32,
     pub form: u32,

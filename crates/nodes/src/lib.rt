@@ -13,7 +13,7 @@ use units::TableUnits;
 
 // A table of words in the numbers by which code makes and judges them: `count` words of `width` bits, word j being numerator / (first + j)
 // rounded up, modulo 2^width. Decoding puts the leading one `lead` back.
-#[derive(Drop)]
+#[derive(Clone, Copy)]
 pub struct Quotients {
     pub count: u32,
     pub width: u32,

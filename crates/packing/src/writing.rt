@@ -8,7 +8,7 @@ pub const WIDEST_PUT: u32 = 32;
 
 // A writer that has taken `place` bits in, which is where the next word goes. They are stored eight bytes at a time: place % 64 of them wait for their bytes,
 // as the lowest bits of `waiting`. The bits above those do not count.
-#[derive(Drop)]
+#[derive(Clone, Copy)]
 pub struct Writer {
     pub waiting: u64,
     pub place: u64,

@@ -3,10 +3,10 @@
 
 // A count of table units of 1 / 2^(2k+3): what a node's value is counted in.
 #[repr(C)]
-#[derive(Drop)]
+#[derive(Clone, Copy)]
 pub struct TableUnits(pub u64);
 
 // A count of ulps of 1 / 2^(2k+1), four table units each: what a reciprocal is counted in.
 #[repr(C)]
-#[derive(Drop)]
+#[derive(Clone, Copy)]
 pub struct Ulps(pub u64);

@@ -30,8 +30,7 @@ use Rattle.image.specs.Inner.{refusal_number, own_bytes}
 use Rattle.image.proofs.Limits.{ImageKept, limit-refuses, limit-passes, limit-kept}
 use Rattle.image.proofs.OwnBytes.{own-word}
 use Rattle.image.proofs.Judging.{word-tells, refusal-tells, word_value, last-passes, node-past, node-refused, node-served}
-use Rattle.reading.proofs.node.Statement.{statement}
-use Rattle.reading.proofs.node.Tie as tie
+use Rattle.reading.proofs.node.Goals as goal
 
 -- the precision, the image and the node number, behind the test of the limits
 abbrev k : tie.Else1 → ℕ
@@ -43,18 +42,11 @@ s c = c.before.before.before.args.image.now
 abbrev j : tie.Else1 → ℕ
 j c = c.before.before.before.args.j
 
--- the refusals after those limits, which are kept there
-abbrev later : tie.Else1 → List Refusal
-later c = node_refusal (k c) (j c) ∷ word_refusal (plain (k c)) (s c) (j c) ∷ []
-
 limit : (c : tie.Else1) → refusal_number (k c) (length (s c)) ≡ 0
 limit c = omega (arith, c.before.refusal-number.ensures, c.if1.false)
 
 kept : (c : tie.Else1) → ImageKept (k c) (s c)
 kept c = limit-kept (k c) (s c) (limit c)
-
-decides : (c : tie.Else1) → node_outcome (k c) (s c) (j c) ≡ outcome (later c) (node_of (k c) (s c) (j c))
-decides c = limit-passes (k c) (s c) (later c) (node_of (k c) (s c) (j c)) (limit c)
 
 -- the table is that of k
 table : (c : tie.After-table) → c.table.result ≡ quotients_of (k c.before)
@@ -67,10 +59,6 @@ counted c = ap (λ (t : Quotients). t.count) (table c)
 below : (c : tie.Else3) → j c.before.before.before < 2 ^ k c.before.before.before
 below c = omega (arith, counted c.before.before, c.before.if2.false, c.if3.false)
 
--- the word that is read is the buffer's
-abbrev place : tie.After-word → tie.Else1
-place c = c.before.before.before.before.before
-
 word : (c : tie.After-word) → c.word.result ≡ word_of (k (place c)) (s (place c)) (j (place c))
 word c =
     let at = place c in
@@ -80,6 +68,16 @@ word c =
     ∙ ap (λ (t : Quotients). word_read t.width (own_bytes (k at) (s at)) (j at)) (table c.before.before.before.before)
     ∙ read-there (word_width (k at)) (own_bytes (k at) (s at)) (j at) narrow
     ∙ own-word (k at) (s at) (kept at) (j at) (below c.before.before)
+
+-- the word that is read is the buffer's
+abbrev place : tie.After-word → tie.Else1
+place c = c.before.before.before.before.before
+
+pub overflow_cast-word : goal.overflow_cast-word
+overflow_cast-word c =
+    let at = place c in
+    let narrow : word_width (k at) ≤ 26 = omega (arith, (kept at).high) in
+    omega (arith, word c, word_lt (word_width (k at)) (s at) (j at), pow_mono narrow)
 
 -- what it stands for
 value : (c : tie.After-decoded) → c.decoded.result.0 ≡ decode_under (leading_one (k (place c.before))) (j (place c.before)) (word_of (k (place c.before)) (s (place c.before)) (j (place c.before)))
@@ -99,9 +97,15 @@ value-fits c =
     let few : 2 * k at + 3 ≤ 27 = omega (arith, (kept at).high) in
     omega (arith, value c, decode-most (k at) (j at) (word_of (k at) (s at) (j at)) (word_lt (word_width (k at)) (s at) (j at)), pow_mono few)
 
--- and the test tells whether the word is wrong
-abbrev judged : tie.After-rounds-up → tie.After-decoded
-judged c = c.before.before.before
+pub overflow_cast-c : goal.overflow_cast-c
+overflow_cast-c c = record { fits = value-fits c }
+
+-- the refusals after those limits, which are kept there
+abbrev later : tie.Else1 → List Refusal
+later c = node_refusal (k c) (j c) ∷ word_refusal (plain (k c)) (s c) (j c) ∷ []
+
+decides : (c : tie.Else1) → node_outcome (k c) (s c) (j c) ≡ outcome (later c) (node_of (k c) (s c) (j c))
+decides c = limit-passes (k c) (s c) (later c) (node_of (k c) (s c) (j c)) (limit c)
 
 tells : (c : tie.After-rounds-up) → is_wrong (plain (k (place (judged c).before))) (s (place (judged c).before)) (j (place (judged c).before)) ≡ not c.rounds-up.result
 tells c =
@@ -111,102 +115,23 @@ tells c =
     ∙ ap (λ (t : Quotients). rounds_up (numerator_bits t.numerator) (t.first + j at) (judged c).decoded.result.0) (table (judged c).before.before.before.before.before)
     ∙ ap₂ (λ (M x : ℕ). rounds_up M (2 ^ k at + j at) x) (numerator-whole (k at) (kept at).high) (value (judged c)))
 
-refusal-number-requires : tie.Need-refusal-number-requires
-refusal-number-requires c κs = search rules
+-- and the test tells whether the word is wrong
+abbrev judged : tie.After-rounds-up → tie.After-decoded
+judged c = c.before.before.before
 
-returns : tie.Need-returns
-returns c =
-    let a = c.before.before.before.args in
-    let k = a.k.0 in
-    let s = a.image.now in
-    let p = c.before.refusal-number.ensures in
-    rw p
-    (ap node_read
-    (sym (limit-refuses k s (node_refusal k a.j ∷ word_refusal (plain k) s a.j ∷ []) (node_of k s a.j) (λ e. omega (arith, c.if1.true, p, e)))))
-
-table-requires : tie.Need-table-requires
-table-requires c κs = search rules
-
-returns-2 : tie.Need-returns-2
-returns-2 c =
-    let at = c.before.before in
-    ap node_read (sym (decides at ∙ node-past (k at) (s at) (j at) (node_of (k at) (s at) (j at)) (omega (arith, counted c.before, c.if2.true))))
-
-cast-t13 : tie.Need-overflow-cast-t13
-cast-t13 c = search rules
-
-returns-3 : tie.Need-returns-3
-returns-3 c =
-    let test = c.before in
-    let at = test.before.before.before in
-    let last : j at ≡ 2 ^ k at = omega (arith, counted test.before.before, test.if3.true) in
-    let none = last-passes (k at) (s at) (j at) (omega (arith, last)) in
-    let implied : node_of (k at) (s at) (j at) ≡ leading_one (k at) = rw (eq-eqb (j at) (2 ^ k at) last) in
-    ap (λ (t : Quotients). node_read (served t.lead)) (table test.before.before)
-    ∙ ap (λ (x : ℕ). node_read (served x)) (sym implied)
-    ∙ ap node_read (sym (decides at ∙ node-served (k at) (s at) (j at) (node_of (k at) (s at) (j at)) (omega (arith, last)) none))
-
-own-bytes-requires : tie.Need-own-bytes-requires
-own-bytes-requires c κs = search rules
-
-word-requires : tie.Need-word-requires
-word-requires c κs = search rules
-
-cast-decoded : tie.Need-overflow-cast-decoded
-cast-decoded c =
-    let at = place c in
-    let narrow : word_width (k at) ≤ 26 = omega (arith, (kept at).high) in
-    omega (arith, word c, word_lt (word_width (k at)) (s at) (j at), pow_mono narrow)
-
-decoded-requires : tie.Need-decoded-requires
-decoded-requires c κs = search rules
-
-add-rounds-up : tie.Need-overflow-add-rounds-up
-add-rounds-up c =
-    let test = c.before.before.before.before in
-    let at = test.before.before.before in
-    let first = ap (λ (t : Quotients). t.first) (table test.before.before) in
-    omega (arith, first, below test, pow_mono (kept at).high)
-
-cast-rounds-up : tie.Need-overflow-cast-rounds-up
-cast-rounds-up c = record { fits = value-fits c.before.before }
-
-rounds-up-requires : tie.Need-rounds-up-requires
-rounds-up-requires c κs = search rules
-
-returns-4 : tie.Need-returns-4
-returns-4 c =
-    let node = judged c.before in
+pub returns-then-not-rounds_up : goal.returns-then-not-rounds_up
+returns-then-not-rounds_up c =
+    let node = judged c in
     let at = place node.before in
     let h = below node.before.before.before in
-    let wrong = refusal-tells (k at) (s at) (j at) h ∙ tells c.before ∙ c.if4.true in
+    let wrong = refusal-tells (k at) (s at) (j at) h ∙ tells c ∙ c.if-not-rounds_up.true in
     ap node_read (sym (decides at ∙ node-refused (k at) (s at) (j at) (node_of (k at) (s at) (j at)) (omega (arith, h)) wrong))
 
-returns-5 : tie.Need-returns-5
-returns-5 c =
-    let node = judged c.before in
+pub returns : goal.returns
+returns c =
+    let node = judged c in
     let at = place node.before in
     let h = below node.before.before.before in
-    let right = refusal-tells (k at) (s at) (j at) h ∙ tells c.before ∙ c.if4.false in
+    let right = refusal-tells (k at) (s at) (j at) h ∙ tells c ∙ c.if-not-rounds_up.false in
     ap (λ (x : ℕ). node_read (served x)) (value node ∙ word_value (k at) (s at) (j at) h)
     ∙ ap node_read (sym (decides at ∙ node-served (k at) (s at) (j at) (node_of (k at) (s at) (j at)) (omega (arith, h)) right))
-
-pub node-spec : {M : Type 1} → statement M
-node-spec =
-    tie.close
-    (tie.spec
-    refusal-number-requires
-    returns
-    table-requires
-    returns-2
-    cast-t13
-    returns-3
-    own-bytes-requires
-    word-requires
-    cast-decoded
-    decoded-requires
-    add-rounds-up
-    cast-rounds-up
-    rounds-up-requires
-    returns-4
-    returns-5)
