@@ -12,7 +12,7 @@ use Rattle.packing.proofs.Written.{place-before, words-length}
 use Rattle.quotient.specs.Quotient.{rounded_up}
 use Rattle.nodes.specs.declared.Quotients.{Quotients}
 use Rattle.image.specs.Inner.{quotients}
-use Rattle.building.specs.Inner.{CanFill, IsDivisor}
+use Rattle.building.specs.Inner.{CanFill}
 
 -- a word behind those before the divisor i takes as many bits more
 pub more : (i first w : ℕ) → first ≤ i → (i - first) * w + w ≡ (i + 1 - first) * w

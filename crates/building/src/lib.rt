@@ -29,7 +29,7 @@ fn guess(dividend: f64, divisor: f64) -> u32
 // Puts word j of a table, which is that of the divisor i = first + j. The bit place is j × width before it and (j + 1) × width behind it.
 fn put_word(image: &mut [u8], w: Writer, table: Quotients, i: u32, guess: u32) -> Writer
     requires can_fill { CanFill table (length image.old) × IsDivisor table i }
-    requires place_value { w.place ≡ (i - table.first) * table.width }
+    requires place_before { w.place ≡ (i - table.first) * table.width }
     ensures writer { result ≡ taken_in w table.width (rounded_up table.numerator i) }
     ensures image_after { image.new ≡ put_bytes image.old w table.width (rounded_up table.numerator i) }
     ensures place_after { result.place ≡ (i + 1 - table.first) * table.width }

@@ -1,0 +1,81 @@
+-- `building::build` meets its contract: a broken limit leaves all as found, and otherwise the buffer is filled with the words of the nodes,
+-- and zeros behind them.
+-- Assumes nothing.
+use mathlib.Core.Path.{◌≡◌, sym, ◌∙◌, ap, ap₂}
+use mathlib.Core.Bool.{cond}
+use mathlib.Core.List.{List, [], ◌++◌}
+use Prim.Native.Nat.{ℕ, ◌+◌, ◌*◌, ◌≤◌}
+use native.Mathlib.Nat.{mul-le-mul}
+use native.Mathlib.Omega.{arith}
+use lib.ListN.{length, drop}
+use lib.Pow.{pow_mono, pow_pos}
+use lib.Dec.{eqb}
+use Rattle.packing.specs.Packing.{bytes_taken}
+use Rattle.packing.specs.Writing.{finish_leaves, writer_before, bytes_before}
+use Rattle.packing.proofs.Written.{words-finished}
+use Rattle.answers.specs.Refusal.{Outcome}
+use Rattle.answers.specs.Answer.{done}
+use Rattle.nodes.specs.Inner.{quotients_of}
+use Rattle.nodes.specs.declared.Quotients.{Quotients}
+use Rattle.tail.specs.Inner.{cleared_from}
+use Rattle.layout.specs.Layout.{image_of, length_of, rom_of}
+use Rattle.layout.proofs.Rom.{rom-written}
+use Rattle.image.specs.Image.{plain}
+use Rattle.image.specs.Inner.{refusal_number, quotients, layout_of}
+use Rattle.image.proofs.Limits.{ImageKept, limit-passes, limit-kept}
+use Rattle.building.specs.Inner.{CanFill}
+use Rattle.building.proofs.build.Goals as goal
+
+-- behind the test of the limits the words of the table can be put
+can-fill : (k : ℕ) (s : List ℕ) → ImageKept k s → CanFill (quotients_of k) (length s)
+can-fill k s ok =
+    record {
+      wide = omega (arith, ok.high);
+      few = omega (arith, pow_mono ok.high);
+      above = pow_pos (3 * k + 3);
+      exact = pow_mono high;
+      room = ok.long;
+    }
+  where
+    high : 3 * k + 3 ≤ 53
+    high = omega (arith, ok.high)
+
+pub fill-w-requires : goal.fill-w-requires
+fill-w-requires c =
+    let k = c.args.k.0 in
+    let s = c.args.image.now in
+    let ok : ImageKept k s = limit-kept k s (sym c.refusal_number-number.ensures ∙ c.if-number-ne0.false) in
+    rw (c.table.ensures ∙ ok.numbers) (can-fill k s ok)
+
+-- what the builder leaves of s by its answer
+abbrev leaves : ℕ → List ℕ → Outcome → List ℕ
+leaves k s o = cond (eqb o.number 0) (rom_of (plain k) (length s)) s
+
+-- the words as they stand behind the last put
+finished : (t : Quotients) (s : List ℕ) → CanFill t (length s)
+    → finish_leaves (bytes_before t.width (quotients t) s t.count) (writer_before t.width (quotients t) t.count)
+    ≡ image_of (layout_of t) ++ drop (length_of (layout_of t)) s
+finished t s ok = words-finished t.width (quotients t) s t.count ok.wide (omega (arith, mul-le-mul few ok.wide)) ok.room
+  where
+    few : t.count ≤ 4294967296
+    few = omega (arith, ok.few)
+
+pub returns : goal.returns
+returns c =
+    let k = c.args.k.0 in
+    let s = c.args.image.now in
+    let t = c.table.result in
+    let limit : refusal_number k (length s) ≡ 0 = sym c.refusal_number-number.ensures ∙ c.if-number-ne0.false in
+    let ok : ImageKept k s = limit-kept k s limit in
+    let table : t ≡ quotients_of k = c.table.ensures ∙ ok.numbers in
+    let past : c.finish-past.result ≡ length_of (layout_of t) = c.finish-past.ensures.value ∙ ap bytes_taken c.fill-w.ensures.place_after in
+    let words = c.finish-past.ensures.image_after ∙ ap₂ finish_leaves c.fill-w.ensures.bytes c.fill-w.ensures.writer in
+    record {
+      value = ap done (sym (limit-passes k s [] 0 limit));
+      image_after =
+          c.clear.ensures
+          ∙ ap₂ cleared_from past (words ∙ finished t s (rw table (can-fill k s ok)))
+          ∙ ap (λ (t : Quotients). cleared_from (length_of (layout_of t)) (image_of (layout_of t) ++ drop (length_of (layout_of t)) s)) table
+          ∙ rom-written (plain k) s ok.long
+          ∙ sym (ap (leaves k s) (limit-passes k s [] 0 limit));
+    }
