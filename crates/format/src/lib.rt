@@ -88,8 +88,8 @@ impl Format {
     // The bytes of the image, 0 where the precision is none. The plain lengths are those of the constant list.
     pub fn image_length(self) -> usize
         ensures value { result ≡ length_or_0 self }
-        ensures* do_value { do ⌜ (← (⟦Format::LONGEST_PLAIN⟧).entry) ≡ image_length (plain_of greatest) ⌝ }
-        ensures* do_value_2 { do ⌜ (← (⟦Format::LONGEST_FULL⟧).entry) ≡ image_length (full_of greatest) ⌝ }
+        ensures longest_plain { Format.LONGEST_PLAIN ≡ image_length (plain_of greatest) }
+        ensures longest_full { Format.LONGEST_FULL ≡ image_length (full_of greatest) }
     {
         let count = self.word_count();
         if count == 0 {
