@@ -5,8 +5,8 @@ ghost use Rattle.std.specs.Prelude.{◌≡◌};
 ghost use Rattle.bound_table.specs.Asked.{asked};
 
 use answers::{NodeRead, ReciprocalGiven};
-use libc::STDOUT_FILENO;
 use precision::Precision;
+use std::io;
 
 // What one table answers to two operands and the number of a node.
 #[derive(Clone, Copy)]
@@ -32,31 +32,26 @@ fn ask(k: Precision, image: &[u8], n: u32, x: u64, y: u64, j: u32) -> Answers
 }
 
 // A line: the number of a refusal or 0, the place, and the value.
-fn line(number: u32, place: u64, value: u64) {
-    io::print_decimal(STDOUT_FILENO, number as u64);
-    io::write_all(STDOUT_FILENO, b" ");
-    io::print_decimal(STDOUT_FILENO, place);
-    io::write_all(STDOUT_FILENO, b" ");
-    io::print_decimal(STDOUT_FILENO, value);
-    io::write_all(STDOUT_FILENO, b"\n");
+fn line(rt: &impl Print, number: u32, place: u64, value: u64) -> io::Result<()> {
+    println!(rt; "{number} {place} {value}")
 }
 
 // The operands 1 1/4 and 1 3/4, of 7 fraction bits, and node 3 by the image as one of precision 2.
-fn show(image: &[u8]) {
+fn show(rt: &impl Print, image: &[u8]) -> io::Result<()> {
     let answers = ask(Precision(2), image, 7, 160, 224, 3);
     let first = answers.first;
     let second = answers.second;
     let node = answers.node;
-    line(first.number, first.place, first.value.0);
-    line(second.number, second.place, second.value.0);
-    line(node.number, node.place, node.value.0);
+    line(rt, first.number, first.place, first.value.0)?;
+    line(rt, second.number, second.place, second.value.0)?;
+    line(rt, node.number, node.place, node.value.0)
 }
 
-fn main() {
+fn main(rt: HostRuntime) -> io::Result<()> {
     let mut image = [0u8; 3];
     building::build(Precision(2), &mut image);
-    show(&image);
-    show(&image[..2]);
+    show(&rt, &image)?;
+    show(&rt, &image[..2])?;
     image[0] = 0;
-    show(&image);
+    show(&rt, &image)
 }

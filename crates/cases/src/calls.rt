@@ -2,73 +2,80 @@
 use crate::print::{bytes, line, number};
 use answers::{NodeRead, ReciprocalGiven};
 use precision::Precision;
+use std::io;
 
-fn answer(n: u32, place: u64, value: u64) {
-    number(n as u64);
-    number(place);
-    line(value);
+fn answer(rt: &impl Print, n: u32, place: u64, value: u64) -> io::Result<()> {
+    number(rt, n as u64)?;
+    number(rt, place)?;
+    line(rt, value)
 }
 
-pub(crate) fn build(room: &mut [u8], lent: usize, k: u32) {
+pub(crate) fn build(rt: &impl Print, room: &mut [u8], lent: usize, k: u32) -> io::Result<()> {
     if room.len() < lent {
-        return;
+        return Ok(());
     }
     let done = building::build(Precision(k), &mut room[0..lent]);
-    answer(done.number, done.place, done.value);
+    answer(rt, done.number, done.place, done.value)
 }
 
-pub(crate) fn check(s: &[u8], k: u32) {
+pub(crate) fn check(rt: &impl Print, s: &[u8], k: u32) -> io::Result<()> {
     let done = checking::check(Precision(k), s);
-    answer(done.number, done.place, done.value);
+    answer(rt, done.number, done.place, done.value)
 }
 
-fn node_answer(r: NodeRead) {
-    answer(r.number, r.place, r.value.0);
+fn node_answer(rt: &impl Print, r: NodeRead) -> io::Result<()> {
+    answer(rt, r.number, r.place, r.value.0)
 }
 
-pub(crate) fn node(s: &[u8], k: u32, j: u32) {
-    node_answer(reading::node(Precision(k), s, j));
+pub(crate) fn node(rt: &impl Print, s: &[u8], k: u32, j: u32) -> io::Result<()> {
+    node_answer(rt, reading::node(Precision(k), s, j))
 }
 
 // Reads node j through a bound table.
-pub(crate) fn bound_node(s: &[u8], k: u32, j: u32) {
-    node_answer(binding::bound_node(Precision(k), s, j));
+pub(crate) fn bound_node(rt: &impl Print, s: &[u8], k: u32, j: u32) -> io::Result<()> {
+    node_answer(rt, binding::bound_node(Precision(k), s, j))
 }
 
-pub(crate) fn word(s: &[u8], k: u32, j: u32) {
-    bytes(reading::word_bytes(Precision(k), s, j));
+pub(crate) fn word(rt: &impl Print, s: &[u8], k: u32, j: u32) -> io::Result<()> {
+    bytes(rt, reading::word_bytes(Precision(k), s, j))
 }
 
-fn reciprocal_answer(x: u64, r: ReciprocalGiven) {
-    number(x);
-    answer(r.number, r.place, r.value.0);
+fn reciprocal_answer(rt: &impl Print, x: u64, r: ReciprocalGiven) -> io::Result<()> {
+    number(rt, x)?;
+    answer(rt, r.number, r.place, r.value.0)
 }
 
-pub(crate) fn reciprocal(s: &[u8], k: u32, n: u32, x: u64) {
-    reciprocal_answer(x, inverting::reciprocal(Precision(k), s, n, x));
+pub(crate) fn reciprocal(rt: &impl Print, s: &[u8], k: u32, n: u32, x: u64) -> io::Result<()> {
+    reciprocal_answer(rt, x, inverting::reciprocal(Precision(k), s, n, x))
 }
 
 // Takes the reciprocal through a bound table.
-pub(crate) fn bound_reciprocal(s: &[u8], k: u32, n: u32, x: u64) {
-    reciprocal_answer(x, binding::bound_reciprocal(Precision(k), s, n, x));
+pub(crate) fn bound_reciprocal(
+    rt: &impl Print,
+    s: &[u8],
+    k: u32,
+    n: u32,
+    x: u64,
+) -> io::Result<()> {
+    reciprocal_answer(rt, x, binding::bound_reciprocal(Precision(k), s, n, x))
 }
 
 // The reciprocals of an operand and of both its neighbours, modulo 2^64.
-pub(crate) fn around(s: &[u8], k: u32, n: u32, x: u64) {
-    reciprocal(s, k, n, std::num::wrapping_sub_u64(x, 1));
-    reciprocal(s, k, n, x);
-    reciprocal(s, k, n, std::num::wrapping_add_u64(x, 1));
+pub(crate) fn around(rt: &impl Print, s: &[u8], k: u32, n: u32, x: u64) -> io::Result<()> {
+    reciprocal(rt, s, k, n, std::num::wrapping_sub_u64(x, 1))?;
+    reciprocal(rt, s, k, n, x)?;
+    reciprocal(rt, s, k, n, std::num::wrapping_add_u64(x, 1))
 }
 
 // The value of node j by the rule alone, with no image.
-pub(crate) fn rule(k: u32, j: u32) {
-    line(nodes::value(Precision(k), j).0);
+pub(crate) fn rule(rt: &impl Print, k: u32, j: u32) -> io::Result<()> {
+    line(rt, nodes::value(Precision(k), j).0)
 }
 
 // Node j of precision 8: what the call gives, and the entry of the constant list, 0 where there is none.
-pub(crate) fn eight(j: u32) {
-    number(nodes::node_8(j).0);
-    line(entry(j) as u64);
+pub(crate) fn eight(rt: &impl Print, j: u32) -> io::Result<()> {
+    number(rt, nodes::node_8(j).0)?;
+    line(rt, entry(j) as u64)
 }
 
 fn entry(j: u32) -> u32 {
@@ -79,15 +86,15 @@ fn entry(j: u32) -> u32 {
 }
 
 // What a precision says of itself, the limits that are named with it, and the fewest and the most fraction bits of an operand.
-pub(crate) fn precision(k: u32) {
+pub(crate) fn precision(rt: &impl Print, k: u32) -> io::Result<()> {
     let p = Precision(k);
-    number(p.in_range() as u64);
-    number(p.word_width());
-    number(p.word_count() as u64);
-    number(p.image_length() as u64);
-    number(Precision::LEAST as u64);
-    number(Precision::GREATEST as u64);
-    number(Precision::LONGEST_IMAGE as u64);
-    number(operand::LEAST_BITS as u64);
-    line(operand::MOST_BITS as u64);
+    number(rt, p.in_range() as u64)?;
+    number(rt, p.word_width())?;
+    number(rt, p.word_count() as u64)?;
+    number(rt, p.image_length() as u64)?;
+    number(rt, Precision::LEAST as u64)?;
+    number(rt, Precision::GREATEST as u64)?;
+    number(rt, Precision::LONGEST_IMAGE as u64)?;
+    number(rt, operand::LEAST_BITS as u64)?;
+    line(rt, operand::MOST_BITS as u64)
 }

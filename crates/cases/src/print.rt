@@ -1,46 +1,47 @@
 // Printing to standard output.
-use libc::STDOUT_FILENO;
+use std::io;
 
-fn space() {
-    io::write_all(STDOUT_FILENO, b" ");
+fn space(rt: &impl Print) -> io::Result<()> {
+    rt.write_all(b" ")
 }
 
-fn end_line() {
-    io::write_all(STDOUT_FILENO, b"\n");
+fn end_line(rt: &impl Print) -> io::Result<()> {
+    rt.write_all(b"\n")
 }
 
 // A line of text.
-pub(crate) fn text(s: &[u8]) {
-    io::write_all(STDOUT_FILENO, s);
-    end_line();
+pub(crate) fn text(rt: &impl Print, s: &[u8]) -> io::Result<()> {
+    rt.write_all(s)?;
+    end_line(rt)
 }
 
 // A space and a number.
-pub(crate) fn number(n: u64) {
-    space();
-    io::print_decimal(STDOUT_FILENO, n);
+pub(crate) fn number(rt: &impl Print, n: u64) -> io::Result<()> {
+    space(rt)?;
+    rt.print(n)
 }
 
 // A number at the end of a line.
-pub(crate) fn line(n: u64) {
-    number(n);
-    end_line();
+pub(crate) fn line(rt: &impl Print, n: u64) -> io::Result<()> {
+    number(rt, n)?;
+    end_line(rt)
 }
 
 // Bytes in hex, with a line feed after each 32nd and at the end.
-pub(crate) fn bytes(s: &[u8]) {
+pub(crate) fn bytes(rt: &impl Print, s: &[u8]) -> io::Result<()> {
     let mut i = 0;
     while i < s.len() {
-        byte(i, s[i]);
+        byte(rt, i, s[i])?;
         i += 1;
     }
-    end_line();
+    end_line(rt)
 }
 
-fn byte(i: usize, b: u8) {
-    space();
-    io::print_hex(STDOUT_FILENO, b as u64, 2);
+fn byte(rt: &impl Print, i: usize, b: u8) -> io::Result<()> {
+    space(rt)?;
+    print!(rt; "{b:02x}")?;
     if i % 32 == 31 {
-        end_line();
+        end_line(rt)?;
     }
+    Ok(())
 }
