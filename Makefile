@@ -17,7 +17,7 @@ endif
 
 ARCHIVE = target/staticlib/libyildegga.a
 EXAMPLES = $(patsubst c/examples/%.c,target/examples/%,$(wildcard c/examples/*.c))
-PROVED = crates.txt $(shell find crates -name must-fail -prune -o -type f -print)
+PROVED = crates.txt $(shell find crates '(' -name must-fail -o -name out ')' -prune -o -type f -print)
 
 HEADER_THERE = $(DESTDIR)$(abspath $(INCLUDEDIR))/yildegga.h
 ARCHIVE_THERE = $(DESTDIR)$(abspath $(LIBDIR))/libyildegga.a
@@ -26,7 +26,9 @@ PC_THERE = $(DESTDIR)$(abspath $(LIBDIR))/pkgconfig/yildegga.pc
 archive: $(ARCHIVE)
 
 $(ARCHIVE): $(PROVED)
-	rt staticlib yildegga
+	cd crates/yildegga && rt lib
+	@mkdir -p $(@D)
+	cp crates/yildegga/out/libyildegga.a $@
 
 install: $(ARCHIVE)
 	install -D -m 644 c/include/yildegga.h '$(HEADER_THERE)'

@@ -1,17 +1,29 @@
 """The archives that the tests link."""
 import functools
+import os
 import pathlib
+import shutil
 import subprocess
 
 ROOT = pathlib.Path(__file__).resolve().parent.parent
+
+
+def sources():
+    """The files that an archive is made of: all of the crates, but for what rt makes there and for wrong programs."""
+    yield ROOT / "crates.txt"
+    for folder, folders, names in os.walk(ROOT / "crates"):
+        folders[:] = set(folders) - {"out", "must-fail"}
+        yield from (pathlib.Path(folder) / name for name in names)
 
 
 @functools.cache
 def archive(name="yildegga"):
     """The archive of a crate of exported functions, proved and made where it is absent or older than what it is made of."""
     path = ROOT / "target" / "staticlib" / f"lib{name}.a"
-    files = [ROOT / "crates.txt", *(file for file in (ROOT / "crates").rglob("*") if file.is_file() and file.parent.name != "must-fail")]
-    if not path.is_file() or path.stat().st_mtime < max(file.stat().st_mtime for file in files):
-        done = subprocess.run(["rt", "staticlib", name], cwd=ROOT, stdin=subprocess.DEVNULL, capture_output=True, text=True, timeout=1800)
-        assert done.returncode == 0, f"rt staticlib {name}: status {done.returncode}: {(done.stdout + done.stderr)[-400:]}"
+    if not path.is_file() or path.stat().st_mtime < max(file.stat().st_mtime for file in sources()):
+        crate = ROOT / "crates" / name
+        done = subprocess.run(["rt", "lib"], cwd=crate, stdin=subprocess.DEVNULL, capture_output=True, text=True, timeout=3600)
+        assert done.returncode == 0, f"rt lib in crates/{name}: status {done.returncode}: {(done.stdout + done.stderr)[-400:]}"
+        path.parent.mkdir(parents=True, exist_ok=True)
+        shutil.copyfile(crate / "out" / path.name, path)
     return path

@@ -34,7 +34,7 @@ def need(tool, package):
 
 
 def make(*words, cwd=ROOT):
-    return well(need("make", "make"), *words, cwd=cwd)
+    return well(need("make", "make"), *words, cwd=cwd, timeout=3600)  # it proves first, where nothing is proved yet
 
 
 @functools.cache

@@ -258,7 +258,7 @@ def clean():
     with tempfile.TemporaryDirectory() as folder:
         copy = pathlib.Path(folder)
         (copy / "target").mkdir(parents=True)
-        for name in ("Makefile", "crates.txt", "c", "crates", "target/log", "target/rlib", "target/stamp", "target/staticlib"):
+        for name in ("Makefile", "crates.txt", "c", "crates", "target/staticlib"):
             well("cp", "-a", ROOT / name, copy / name)
         make("examples", cwd=copy)
         before = files(copy)

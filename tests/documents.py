@@ -8,7 +8,7 @@ from repository import CRATES, ROOT, listed, open_functions
 
 README = ROOT / "README.md"
 BESIDE = ["README.md", "c/README.md", "rust/README.md"]  # and docs/*.md
-NO_PART = {".git", "target", "__pycache__"}
+NO_PART = {".git", "target", "out", "__pycache__"}
 MAY_NAME = {"docs/SCOPE.md", "docs/DECISIONS.md"}  # these say which documents are meant
 ELSEWHERE = re.compile(r"\.\./sha[r]ed|01-sco[p]e|02-change-requ[e]sts|proof-no[t]es|90-rat[t]le")  # with classes, so as not to find itself
 FOR_CALLERS = ["yildegga", "yildegga_bound", "precision", "building", "checking", "reading", "inverting", "binding", "table_text"]

@@ -12,7 +12,11 @@ import reference
 import script
 
 ROOT = pathlib.Path(__file__).resolve().parent.parent
-BIN = ROOT / "target" / "bin"
+
+
+def program(name):
+    """The program of a crate, as rt builds it there."""
+    return ROOT / "crates" / name / "out" / name
 
 
 def same(found, expected):
@@ -25,7 +29,7 @@ def same(found, expected):
 
 def run(name, pieces, pause=0.0):
     """What the program writes to standard output when its input arrives in these pieces. It must end well and say nothing else."""
-    process = subprocess.Popen([BIN / name], stdin=subprocess.PIPE, stdout=subprocess.PIPE, stderr=subprocess.PIPE)
+    process = subprocess.Popen([program(name)], stdin=subprocess.PIPE, stdout=subprocess.PIPE, stderr=subprocess.PIPE)
     try:
         for piece in pieces:
             process.stdin.write(piece)
@@ -374,7 +378,7 @@ def printed_table(pieces, refused):
 
 def printed_table_closed():
     """Standard input is closed before the program starts, so that it can read nothing."""
-    done = subprocess.run(["sh", "-c", 'exec "$0" <&-', BIN / "print_table"], capture_output=True, timeout=60)
+    done = subprocess.run(["sh", "-c", 'exec "$0" <&-', program("print_table")], capture_output=True, timeout=60)
     assert done.stderr == b"", f"standard error: {done.stderr[:80]!r}"
     return same(done.stdout, b"refused 1\n") or (f"exit status {done.returncode}" if done.returncode else None)
 
@@ -385,7 +389,7 @@ def printed_table_document():
 
 def one_command():
     """./print-table 2, which the README has a newcomer type, started in another folder."""
-    done = subprocess.run([ROOT / "print-table", "2"], cwd="/", stdin=subprocess.DEVNULL, capture_output=True, timeout=600)
+    done = subprocess.run([ROOT / "print-table", "2"], cwd="/", stdin=subprocess.DEVNULL, capture_output=True, timeout=3600)
     return same(done.stdout, PRINTED_2) or (f"exit status {done.returncode}" if done.returncode else None)
 
 

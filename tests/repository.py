@@ -1,4 +1,5 @@
 """Tests of the repository: units do not mix, every crate is listed, contracts stand on every open call, must-fail edits are sound."""
+import functools
 import pathlib
 import re
 import shutil
@@ -8,12 +9,13 @@ import tempfile
 ROOT = pathlib.Path(__file__).resolve().parent.parent
 CRATES = ROOT / "crates"
 CONTRACTS = ROOT / "docs" / "CONTRACTS.md"
+CLAUSE = re.compile(r"\b(?:(?:requires|ensures)\*?\s*\w*|ghost\b[^{}]*)\s*$")  # what stands before the brace of a clause
 OPEN = re.compile(r"^\s*(?:#\[[^\]]*\]\s*)*pub (?:const )?(?:extern \"C\" )?fn (\w+)")
 
 
-def rt(*words, cwd=ROOT):
+def rt(*words, cwd=ROOT, timeout=600):
     return subprocess.run(["rt", *words], cwd=cwd, stdin=subprocess.DEVNULL, stdout=subprocess.PIPE, stderr=subprocess.STDOUT,
-                          text=True, timeout=600)
+                          text=True, timeout=timeout)
 
 
 def listed():
@@ -22,11 +24,18 @@ def listed():
     for line in (ROOT / "crates.txt").read_text().splitlines():
         name, colon, below = line.partition("#")[0].partition(":")
         if colon:
-            crates[name.strip()] = below.split()
+            crates[name.split()[0]] = below.split()  # after the name may stand what kind of crate it is
     return crates
 
 
 # ---- units do not mix
+
+def texts_of(crate, room):
+    """Copies the code, the definitions and the proofs of a crate to a repository of its own."""
+    for part in ("src", "specs", "proofs"):
+        if (CRATES / crate / part).is_dir():
+            shutil.copytree(CRATES / crate / part, room / "crates" / crate / part)
+
 
 def trial(name):
     """The text tests/units/NAME.txt as the program of a crate above `units`, in a repository of its own."""
@@ -39,11 +48,11 @@ def trial(name):
             if crate in listed() and crate not in crates:
                 crates[crate] = listed()[crate]
                 todo += crates[crate]
-                shutil.copytree(CRATES / crate, room / "crates" / crate)
+                texts_of(crate, room)
         (room / "crates" / "trial" / "src").mkdir(parents=True)
         shutil.copy(ROOT / "tests" / "units" / f"{name}.txt", room / "crates" / "trial" / "src" / "main.rt")
         (room / "crates.txt").write_text("".join(f"{crate}: {' '.join(below)}\n" for crate, below in crates.items()))
-        return rt("check", "trial", cwd=room)
+        return rt("check", cwd=room / "crates" / "trial")
 
 
 def code_lines(name):
@@ -79,8 +88,32 @@ def crates_listed():
 
 
 def formatted():
-    done = rt("fmt", "--check")
-    return None if done.returncode == 0 else done.stdout[-400:]
+    """In a copy, `rt fmt` leaves every file as it is."""
+    bad = []
+    with tempfile.TemporaryDirectory() as folder:
+        room = pathlib.Path(folder)
+        shutil.copy(ROOT / "crates.txt", room)
+        for crate in listed():
+            texts_of(crate, room)
+        for crate in listed():
+            done = rt("fmt", cwd=room / "crates" / crate)
+            if done.returncode:
+                bad.append(f"{crate}: {done.stdout[-200:]}")
+        copied = sorted(path for path in (room / "crates").rglob("*") if path.is_file() and path.suffix in (".rt", ".antt"))
+        bad += [str(path.relative_to(room)) for path in copied if path.read_bytes() != (ROOT / path.relative_to(room)).read_bytes()]
+    return "; ".join(bad) or (None if copied else "there is no file")
+
+
+def to_the_body(lines):
+    """The lines of a function's head and clauses, up to the one that opens its body: the first brace that is no clause's."""
+    depth, before = 0, ""
+    for end, line in enumerate(lines):
+        for sign in line.partition("//")[0] + "\n":
+            if sign == "{" and depth == 0 and not CLAUSE.search(before):
+                return lines[:end + 1]
+            depth += (sign == "{") - (sign == "}")
+            before = "" if sign == "}" and depth == 0 else before + sign
+    raise ValueError(f"no body follows {lines[0]!r}")
 
 
 def open_functions():
@@ -90,9 +123,7 @@ def open_functions():
         for at, line in enumerate(lines):
             head = OPEN.match(line)
             if head:
-                past = next(end for end in range(at, len(lines)) if re.fullmatch(r"\s*\{|.*[^⌝] \{|.*\}", lines[end])
-                            and not re.match(r"\s*(requires|ensures)\b", lines[end]))
-                yield path.relative_to(CRATES).parts[0], head.group(1), lines[at:past + 1]
+                yield path.relative_to(CRATES).parts[0], head.group(1), to_the_body(lines[at:])
 
 
 def contracts_stand():
@@ -105,6 +136,10 @@ def contracts_stand():
 
 
 # ---- must-fail edits
+
+# Libraries that no other crate uses yet: their calls have no section in docs/CONTRACTS.md.
+UNFINISHED = {"format"}
+
 
 def edits():
     return {f"{path.parent.parent.name}/{path.stem}" for path in CRATES.glob("*/must-fail/*.edit")}
@@ -123,7 +158,10 @@ def sections():
 
 def enough_edits():
     """Each open call has a section in docs/CONTRACTS.md with two wrong programs or more of its own crate, and each section a call."""
-    calls = [(crate, name) for crate, name, _ in open_functions()]
+    used = {name for below in listed().values() for name in below}
+    if UNFINISHED & used:
+        return f"used, and not finished: {UNFINISHED & used}"
+    calls = [(crate, name) for crate, name, _ in open_functions() if crate not in UNFINISHED]
     listed_calls = [call for call, _ in sections()]
     bad = [f"{crate}::{name}: {calls.count((crate, name))} open functions, {listed_calls.count((crate, name))} sections"
            for crate, name in sorted({*calls, *listed_calls})
@@ -162,33 +200,33 @@ def edits_of_programs():
     return f"they change a proof: {bad}" if bad else None
 
 
-# What is said where a proof does not fit the code: a need that is not there, code that does not compile, a term to rewrite that the goal
+# What is said where a proof does not fit the code: a name that is not there, code that does not compile, a term to rewrite that the goal
 # does not have. Such a refusal shows nothing about the wrong program.
-NOT_A_FACT = ("that can be named from here", "expected type `tie.Need-", ": error[",
+NOT_A_FACT = ("that can be named from here", "is not in scope", "has no ", ": error[",
               "`rw`: no occurrence", "`rw`: no part of", "no equation of the list has an instance")
 
 
-def complaint(log):
-    """The first thing that the check had against an edited crate: an error that does not merely follow from another, or a
-    need that it could not close by itself."""
-    for line in log.splitlines():
-        if re.match(r"\S*: error", line) and "was not admitted" not in line:
-            return line
-    for line in log.splitlines():
-        if line.startswith("fn ") and "`search` does not close" in line:
-            return line
-    return None
+@functools.cache
+def said_of_edits():
+    """What `rt must-fail` says of each edit; what `rt ci` has tried it does not try again."""
+    done = rt("must-fail", timeout=14400)
+    return dict(re.findall(r"^rt: must-fail ([\w-]+/[\w-]+)\.edit: (.*)", done.stdout, re.M))
+
+
+def complaint(said):
+    """The first thing that the check had against an edited crate, but for names that the edit took away, or None where it is said that
+    there is nothing else, that the prover met a limit, or that the edit was not refused."""
+    found = re.fullmatch(r"refused, as it must be: (?:note: )?(.+)", said or "")
+    return found and found[1]
 
 
 def refused_for_a_fact():
     bad = []
     for edit in sorted(edits()):
-        log = ROOT / "target" / "must-fail" / edit / ".log"
-        first = complaint(log.read_text()) if log.is_file() else None
-        if first is None:
-            bad.append(f"{edit}: " + ("nothing is said against it" if log.is_file() else "it was not tried"))
-        elif any(words in first for words in NOT_A_FACT):
-            bad.append(f"{edit}: {first[:200]}")
+        said = said_of_edits().get(edit)
+        first = complaint(said)
+        if first is None or any(words in first for words in NOT_A_FACT):
+            bad.append(f"{edit}: " + (said[:200] if said else "it was not tried"))
     if not edits():
         return "there is no edit"
     return "; ".join(bad) or None

@@ -1,5 +1,5 @@
 #!/usr/bin/env python3
-"""Runs the tests that are run and not proved, after `rt ci` or `rt check` has made target/.
+"""Runs the tests that are run and not proved, after `rt ci` has built the programs.
 
 usage: python3 tests/run.py [WORD]     only the tests whose names hold WORD
 

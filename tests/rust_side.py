@@ -122,7 +122,7 @@ def declared():
         return {(name, parameters, same.get(answer, answer)) for name, parameters, answer in re.findall(pattern, text)}
 
     slices = exported.replace("&mut [u8]", "*mut u8, length: usize").replace("&[u8]", "*const u8, length: usize")
-    there = functions(slices, r'#\[no_mangle\]\s*pub extern "C" fn (\w+)\((.*)\) -> (\w+)')
+    there = functions(slices, r'#\[unsafe\(no_mangle\)\]\s*pub extern "C" fn (\w+)\((.*)\) -> (\w+)')
     here = functions(ours, r"\n    fn (\w+)\((.*)\) -> (\w+);")
     if not there:
         return "no exported function was found"
@@ -199,7 +199,7 @@ def archive_found():
             return (folder / "image").read_bytes()
 
         absent = build()
-        if absent.returncode == 0 or b"rt staticlib yildegga" not in absent.stderr or b"YILDEGGA_LIB_DIR" not in absent.stderr:
+        if absent.returncode == 0 or b"make it by `make`" not in absent.stderr or b"YILDEGGA_LIB_DIR" not in absent.stderr:
             return f"with no archive: status {absent.returncode}, {absent.stderr[-400:]!r}"
         (lib / "libyildegga.a").write_bytes(archive().read_bytes())
         why = end(build())

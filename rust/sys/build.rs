@@ -22,8 +22,7 @@ fn main() {
         println!("cargo::rustc-link-lib=static=yildegga");
     } else {
         println!(
-            "cargo::error={} is not there: make it by `make` or `rt staticlib yildegga` in the repository, \
-             or set {FOLDER} to the folder that has it",
+            "cargo::error={} is not there: make it by `make` in the repository, or set {FOLDER} to the folder that has it",
             archive.display()
         );
     }
