@@ -3,7 +3,7 @@
 -- Assumes nothing.
 use mathlib.Core.Path.{◌≡◌, sym, ap, ◌∙◌}
 use mathlib.Core.Bool.{true}
-use Prim.Native.Nat.{ℕ, zero, suc, ◌+◌, ◌-◌, ◌*◌, ◌%◌, ◌^◌, ◌≤◌, ◌<◌}
+use Prim.Native.Nat.{ℕ, zero, suc, ◌+◌, ◌-◌, ◌*◌, ◌%◌, ◌≤◌, ◌<◌}
 use native.Mathlib.Nat.{le_refl, zero-lt-suc, not-suc-le-zero, add_assoc, mul-le-mul, mul-le-mul_left, mul-le-mul_right, mod-eq_of_lt, mod-eq-sub-mod, mul-mod_left, add-mod_left, lt_of_not-le}
 use native.Mathlib.Omega.{arith}
 use lib.Dec.{eqb}

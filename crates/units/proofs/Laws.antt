@@ -1,7 +1,7 @@
 -- One ulp is four table units.
 -- Assumes nothing.
 use mathlib.Core.Path.{◌≡◌}
-use Prim.Native.Nat.{ℕ, ◌*◌, ◌^◌}
+use Prim.Native.Nat.{ℕ, ◌*◌}
 use native.Mathlib.Omega.{arith}
 use lib.Pow.{pow-add, pow_pos}
 use Rattle.units.specs.Units.{table_units_in_one, ulps_in_one, table_units_in_ulp}

@@ -4,7 +4,6 @@ use mathlib.Core.Path.{sym}
 use native.Mathlib.Nat.{div-eq_of_lt}
 use lib.Pow.{pow_mono}
 use native.Mathlib.Omega.{arith}
-use borrow.Author.Rules.{rules}
 use Rattle.bits.proofs.high.Goals as goal
 
 pub returns-then-count-ge64 : goal.returns-then-count-ge64

@@ -1,11 +1,9 @@
 -- `bits::low` meets its contract: what is left when the high bits are taken away.
 -- Assumes nothing.
 use mathlib.Core.Path.{sym}
-use Prim.Native.Nat.{◌/◌, ◌*◌, ◌^◌}
-use native.Mathlib.Nat.{mod-eq_of_lt, mod-le, div-mul-le_self, div-add-mod'}
+use native.Mathlib.Nat.{mod-eq_of_lt}
 use lib.Pow.{pow_mono}
 use native.Mathlib.Omega.{arith}
-use borrow.Author.Rules.{rules}
 use Rattle.bits.proofs.low.Goals as goal
 
 pub returns-then-count-ge64 : goal.returns-then-count-ge64

@@ -5,7 +5,6 @@ use Prim.Native.Nat.{ℕ, ◌+◌, ◌-◌, ◌*◌, ◌%◌, ◌^◌}
 use native.Mathlib.Nat.{mul-mod_left}
 use native.Mathlib.Omega.{arith}
 use lib.Pow.{pow-add}
-use borrow.Author.Rules.{rules}
 use Rattle.bits.proofs.padded.Goals as goal
 
 -- x × 2^n is a multiple of 2^64

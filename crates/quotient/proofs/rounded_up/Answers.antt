@@ -1,6 +1,6 @@
 -- `quotient::rounded_up` meets its contract: the quotient rounded down is exact, or one too small.
 -- Assumes nothing.
-use Rattle.std.proofs.Common.{◌/◌, ◌<◌, sym, le-mul_of_pos_right, div-mul-le_self, arith, rules}
+use Rattle.std.proofs.Common.{◌/◌, ◌<◌, sym, div-mul-le_self, arith}
 use native.Mathlib.Nat.{lt-div-mul-add}
 use Rattle.quotient.proofs.Laws.{by_zero, unique, one_more}
 use Rattle.quotient.proofs.rounded_up.Goals as goal

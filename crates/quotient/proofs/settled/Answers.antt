@@ -1,6 +1,6 @@
 -- `quotient::settled` meets its contract: a guess that passes the test is the quotient, and else it is divided for.
 -- Assumes nothing.
-use Rattle.std.proofs.Common.{sym, ◌∙◌, rules}
+use Rattle.std.proofs.Common.{sym, ◌∙◌}
 use Rattle.quotient.specs.Inner.{numerator_bits}
 use Rattle.quotient.proofs.Laws.{passed}
 use Rattle.quotient.proofs.settled.Goals as goal
