@@ -189,14 +189,10 @@ def edits_named():
     return f"not in docs/CONTRACTS.md: {sorted(edits() - named)}; no such edit: {sorted(named - edits())}"
 
 
-# Crates whose functions are walked by hand: the proof names each operation, so a wrong program there takes lines of the proof with it.
-WALKED = {"binding"}
-
-
 def edits_of_programs():
-    """An edit is of a program or of a definition; only where functions are walked by hand may it change a proof too."""
-    bad = [edit for edit in sorted(edits()) if edit.split("/")[0] not in WALKED
-           and re.search(r"^file: proofs/", (CRATES / edit.replace("/", "/must-fail/")).with_suffix(".edit").read_text(), re.M)]
+    """An edit is of a program or of a definition, and changes no proof."""
+    bad = [edit for edit in sorted(edits())
+           if re.search(r"^file: proofs/", (CRATES / edit.replace("/", "/must-fail/")).with_suffix(".edit").read_text(), re.M)]
     return f"they change a proof: {bad}" if bad else None
 
 
@@ -242,5 +238,5 @@ def tests():
     yield "must-fail: two edits or more for each open call, in its section of docs/CONTRACTS.md", enough_edits
     yield "must-fail: each edit begins with a line that says which wrong program it is", edits_say_what
     yield "must-fail: docs/CONTRACTS.md names each edit", edits_named
-    yield "must-fail: no edit changes a proof, but for functions that are walked by hand", edits_of_programs
+    yield "must-fail: no edit changes a proof", edits_of_programs
     yield "must-fail: each edit was refused because a fact fails", refused_for_a_fact
