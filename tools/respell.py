@@ -1,12 +1,14 @@
 #!/usr/bin/env python3
 """Spells the repository's own definitions and lemmas in snake case, as today's Rattle does.
 
-usage: python3 tools/respell.py [FOLDER]      (default: the folder that it is started in; run once, after port.py)
+usage: python3 tools/respell.py [FOLDER] [--lemmas]      (default: the folder that it is started in; run once, after port.py)
 
 Each word of a name in lower camel case becomes a word of its own: `nodeOutcome` is `node_outcome`, `length-toBytes` is `length-to_bytes`. Names
-that begin with a capital, single letters of the paper (`given-is-R`) and names of the library (`uint_Tells`) stay. It turns definitions, proofs,
-contracts, must-fail edits, and what the pages name between backticks. What would fall together with a
-name that is there is listed, and nothing is written, but for the names of `SHARED`.
+that begin with a capital, single letters of the paper and names of the library (`uint_Tells`) stay. Then the names of lemmas whose words are joined
+by dashes take `_` for them, as the list lemma-names.txt beside this file has them: `check-refuses-7` is `check_refuses_7`. A dash stays between two
+names, as in `length-to_bytes`, and where the other spelling is another name already. It turns definitions, proofs, contracts, must-fail edits, and
+what the pages name between backticks, but for the history in CHANGES.md and PORT.md. What would fall together with a name that is there is listed,
+and nothing is written, but for the names of `SHARED`. With --lemmas it goes by the list alone, where the first part has been done.
 """
 import pathlib
 import re
@@ -30,18 +32,23 @@ def word(part):
     return re.sub(r"(_o[rf])(\d)", r"\1_\2", re.sub(r"[A-Z]", lambda m: "_" + m[0].lower(), part))
 
 
+LEMMAS = dict(line.split() for line in pathlib.Path(__file__).with_name("lemma-names.txt").read_text(encoding="utf-8").splitlines())
+
+
 def name(found):
-    if found[0] in BEFORE:
-        return BEFORE[found[0]]
-    return "-".join(word(part) for part in found[0].split("-"))
+    if "--lemmas" in sys.argv:
+        return LEMMAS.get(found[0], found[0])
+    spelled = BEFORE.get(found[0]) or "-".join(word(part) for part in found[0].split("-"))
+    return LEMMAS.get(spelled, spelled)
 
 
 def pages(root):
-    return [p for p in [root / "README.md", root / "c" / "README.md", root / "rust" / "README.md", *sorted((root / "docs").glob("*.md"))] if p.is_file()]
+    named = [root / "README.md", root / "c" / "README.md", root / "rust" / "README.md", *sorted((root / "docs").glob("*.md"))]
+    return [p for p in named if p.is_file() and p.name not in ("CHANGES.md", "PORT.md")]
 
 
 def main():
-    root = pathlib.Path(sys.argv[1] if len(sys.argv) > 1 else ".")
+    root = pathlib.Path(next((a for a in sys.argv[1:] if not a.startswith("--")), "."))
     there, turned = set(), {}
     texts = {}
     for path in sorted(root.glob("crates/**/*")):

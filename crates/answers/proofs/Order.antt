@@ -91,31 +91,31 @@ listed ms (r ∷ rs) v z t =
     chosen (λ o. T (is_one_of o.number ms)) r.applies (turned_back r) (outcome rs v) all.0 (listed ms rs v z all.1)
 
 -- a call that is turned back has the value 0
-pub refused-value : (rs : List Refusal) (v : ℕ) → ((outcome rs v).number ≡ 0 → ⊥) → (outcome rs v).value ≡ 0
-refused-value [] v = λ f. absurd (f refl)
-refused-value (r ∷ rs) v =
-    chosen (λ o. (o.number ≡ 0 → ⊥) → o.value ≡ 0) r.applies (turned_back r) (outcome rs v) (λ f. refl) (refused-value rs v)
+pub refused_value : (rs : List Refusal) (v : ℕ) → ((outcome rs v).number ≡ 0 → ⊥) → (outcome rs v).value ≡ 0
+refused_value [] v = λ f. absurd (f refl)
+refused_value (r ∷ rs) v =
+    chosen (λ o. (o.number ≡ 0 → ⊥) → o.value ≡ 0) r.applies (turned_back r) (outcome rs v) (λ f. refl) (refused_value rs v)
 
 -- a call that gives 0 has the value 0 in any case
-pub value-of-0 : (rs : List Refusal) → (outcome rs 0).value ≡ 0
-value-of-0 [] = refl
-value-of-0 (r ∷ rs) = chosen (λ o. o.value ≡ 0) r.applies (turned_back r) (outcome rs 0) refl (value-of-0 rs)
+pub value_of_0 : (rs : List Refusal) → (outcome rs 0).value ≡ 0
+value_of_0 [] = refl
+value_of_0 (r ∷ rs) = chosen (λ o. o.value ≡ 0) r.applies (turned_back r) (outcome rs 0) refl (value_of_0 rs)
 
 -- a served call has place 0 and its value
-pub served-value : (rs : List Refusal) (v : ℕ) → T (numbered rs) → (outcome rs v).number ≡ 0 → ((outcome rs v).place ≡ 0) × ((outcome rs v).value ≡ v)
-served-value [] v t = λ e. (refl, refl)
-served-value (r ∷ rs) v t =
+pub served_value : (rs : List Refusal) (v : ℕ) → T (numbered rs) → (outcome rs v).number ≡ 0 → ((outcome rs v).place ≡ 0) × ((outcome rs v).value ≡ v)
+served_value [] v t = λ e. (refl, refl)
+served_value (r ∷ rs) v t =
     chosen (λ o. o.number ≡ 0 → (o.place ≡ 0) × (o.value ≡ v)) r.applies (turned_back r) (outcome rs v)
     (λ e. absurd (apart r.number 0 (both (not (eqb r.number 0)) (numbered rs) t).0 e))
-    (served-value rs v (both (not (eqb r.number 0)) (numbered rs) t).1)
+    (served_value rs v (both (not (eqb r.number 0)) (numbered rs) t).1)
 
 or_apart : (a b : Bool) → T (a || b) → (T a → ⊥) → T b
 or_apart true b t f = absurd (f tt)
 or_apart false b t f = t
 
-not-one-of : (n : ℕ) (ms : List ℕ) → NoneOf n ms → T (is_one_of n ms) → ⊥
-not-one-of n [] f t = t
-not-one-of n (m ∷ ms) f t = not-one-of n ms f.1 (or_apart (eqb n m) (is_one_of n ms) t (λ h. f.0 (eqb→eq n m h)))
+not_one_of : (n : ℕ) (ms : List ℕ) → NoneOf n ms → T (is_one_of n ms) → ⊥
+not_one_of n [] f t = t
+not_one_of n (m ∷ ms) f t = not_one_of n ms f.1 (or_apart (eqb n m) (is_one_of n ms) t (λ h. f.0 (eqb→eq n m h)))
 
 -- the place is 0 but under the numbers at which refusals carry places
 pub placed : (ms : List ℕ) (rs : List Refusal) (v : ℕ) → T (placed_at ms rs) → NoneOf (outcome rs v).number ms → (outcome rs v).place ≡ 0
@@ -123,5 +123,5 @@ placed ms [] v t = λ f. refl
 placed ms (r ∷ rs) v t =
     let all = both (is_one_of r.number ms || eqb r.place 0) (placed_at ms rs) t in
     chosen (λ o. NoneOf o.number ms → o.place ≡ 0) r.applies (turned_back r) (outcome rs v)
-    (λ f. eqb→eq r.place 0 (or_apart (is_one_of r.number ms) (eqb r.place 0) all.0 (not-one-of r.number ms f)))
+    (λ f. eqb→eq r.place 0 (or_apart (is_one_of r.number ms) (eqb r.place 0) all.0 (not_one_of r.number ms f)))
     (placed ms rs v all.1)

@@ -8,7 +8,7 @@ use native.Mathlib.Omega.{arith}
 use lib.ListN.{length}
 use Rattle.packing.specs.Writing.{started, taken_in, put_bytes, writer_before, bytes_before}
 use Rattle.packing.specs.declared.writing.Writer.{Writer}
-use Rattle.packing.proofs.Written.{place-before, words-length}
+use Rattle.packing.proofs.Written.{place-before, words_length}
 use Rattle.quotient.specs.Quotient.{rounded_up}
 use Rattle.nodes.specs.declared.Quotients.{Quotients}
 use Rattle.image.specs.Inner.{quotients}
@@ -85,13 +85,13 @@ module _ (t : Quotients) (s image : List ℕ) (w : Writer) (i : ℕ) (h : Filled
         few : t.count ≤ 4294967296
         few = omega (arith, ok.few)
 
-    pub filled-place : w.place ≡ j * t.width
-    filled-place = ap (λ (r : Writer). r.place) h.writer ∙ place-before t.width f j (omega (arith, within, small))
+    pub filled_place : w.place ≡ j * t.width
+    filled_place = ap (λ (r : Writer). r.place) h.writer ∙ place-before t.width f j (omega (arith, within, small))
 
-    pub filled-length : length image ≡ length s
-    filled-length =
-        ap length h.bytes ∙ words-length t.width f s j ok.wide (omega (arith, within, small)) (omega (arith, within, ok.room))
+    pub filled_length : length image ≡ length s
+    filled_length =
+        ap length h.bytes ∙ words_length t.width f s j ok.wide (omega (arith, within, small)) (omega (arith, within, ok.room))
 
     -- so the buffer can still be filled
-    pub filled-can : CanFill t (length image)
-    filled-can = record { wide = ok.wide; few = ok.few; above = ok.above; exact = ok.exact; room = omega (arith, ok.room, filled-length) }
+    pub filled_can : CanFill t (length image)
+    filled_can = record { wide = ok.wide; few = ok.few; above = ok.above; exact = ok.exact; room = omega (arith, ok.room, filled_length) }

@@ -44,34 +44,34 @@ sum_number f s a t b c =
     (either (ltb a b) (round f t (b - a) c) (round f (s && ltb b a) (a - b) c) (round_number f t (b - a) c) (round_number f (s && ltb b a) (a - b) c))
 
 -- so is a sum with a finite number
-pub add-number : (f : Format) (x y : Float) → Number x → T (finite y) → Number (add f x y)
+pub add_number : (f : Format) (x y : Float) → Number x → T (finite y) → Number (add f x y)
 unfolding add is_nan
-add-number f nan y p q = absurd p
-add-number f (inf s) nan p q = absurd q
-add-number f (inf s) (inf t) p q = absurd q
-add-number f (inf s) (fin t n d) p q = tt
-add-number f (fin s m e) nan p q = absurd q
-add-number f (fin s m e) (inf t) p q = absurd q
-add-number f (fin s m e) (fin t n d) p q = sum_number f s _ t _ _
+add_number f nan y p q = absurd p
+add_number f (inf s) nan p q = absurd q
+add_number f (inf s) (inf t) p q = absurd q
+add_number f (inf s) (fin t n d) p q = tt
+add_number f (fin s m e) nan p q = absurd q
+add_number f (fin s m e) (inf t) p q = absurd q
+add_number f (fin s m e) (fin t n d) p q = sum_number f s _ t _ _
 
 -- and the quotient of a finite number above zero by anything but a NaN
-pub div-number : (f : Format) (x y : Float) → T (positive x) → Number y → Number (div f x y)
+pub div_number : (f : Format) (x y : Float) → T (positive x) → Number y → Number (div f x y)
 unfolding div is_nan
-div-number f nan y p q = absurd p
-div-number f (inf s) y p q = absurd p
-div-number f (fin true m e) y p q = absurd p
-div-number f (fin false m e) nan p q = absurd q
-div-number f (fin false m e) (inf t) p q = tt
-div-number f (fin false m e) (fin t n d) p q =
+div_number f nan y p q = absurd p
+div_number f (inf s) y p q = absurd p
+div_number f (fin true m e) y p q = absurd p
+div_number f (fin false m e) nan p q = absurd q
+div_number f (fin false m e) (inf t) p q = tt
+div_number f (fin false m e) (fin t n d) p q =
     either (eqb n 0) (cond (eqb m 0) nan (inf (unlike false t))) (round f (unlike false t) (m * up e * down d) (n * up d * down e))
     (subst (λ (b : Bool). Number (cond b nan (inf (unlike false t)))) (sym (ne_eqb m 0 (λ z. omega (arith, z, ltb→lt 0 m p)))) tt)
     (round_number f (unlike false t) (m * up e * down d) (n * up d * down e))
 
 -- a whole number as a double
-pub whole-number : (n : ℕ) → Number (of_int binary64 (pos n))
+pub whole_number : (n : ℕ) → Number (of_int binary64 (pos n))
 unfolding of_int
-whole-number n = round_number binary64 false n 1
+whole_number n = round_number binary64 false n 1
 
-pub whole-positive : (n : ℕ) → 0 < n → n ≤ 2 ^ 53 → T (positive (of_int binary64 (pos n)))
+pub whole_positive : (n : ℕ) → 0 < n → n ≤ 2 ^ 53 → T (positive (of_int binary64 (pos n)))
 unfolding of_int
-whole-positive n above h = positive_of_value (round binary64 false n 1) n 1 (round_whole binary64 false n h) above
+whole_positive n above h = positive_of_value (round binary64 false n 1) n 1 (round_whole binary64 false n h) above

@@ -15,8 +15,8 @@ use Rattle.decimal.specs.Inner.{has_room, put_into, place_after, Wrote}
 
 module _ (s : List ℕ) (at : ℕ) (t : List ℕ) (fits : at + length t ≤ length s) where
   -- what stands up to the end of the text
-  head-length : length (take at s ++ t) ≡ at + length t
-  head-length = rw (length-append, length-take-le at s (omega arith))
+  head_length : length (take at s ++ t) ≡ at + length t
+  head_length = rw (length-append, length-take-le at s (omega arith))
 
   -- writing keeps the length
   pub length-written : length (written s at t) ≡ length s
@@ -24,12 +24,12 @@ module _ (s : List ℕ) (at : ℕ) (t : List ℕ) (fits : at + length t ≤ leng
   length-written = simp (length-append, length-drop, length-take-le at s (omega arith)) (omega arith)
 
   -- a second piece right after the first: the two are one text
-  pub written-more : (u : List ℕ) → written (written s at t) (at + length t) u ≡ written s at (t ++ u)
+  pub written_more : (u : List ℕ) → written (written s at t) (at + length t) u ≡ written s at (t ++ u)
   unfolding written
-  written-more u =
-      rw (take_at (take at s ++ t) (drop (at + length t) s) (at + length t) head-length)
+  written_more u =
+      rw (take_at (take at s ++ t) (drop (at + length t) s) (at + length t) head_length)
       (ap (λ (r : List ℕ). take at s ++ t ++ u ++ r)
-      (ap (λ (n : ℕ). drop (n + length u) (take at s ++ t ++ drop (at + length t) s)) (sym head-length)
+      (ap (λ (n : ℕ). drop (n + length u) (take at s ++ t ++ drop (at + length t) s)) (sym head_length)
       ∙ drop-append-add (take at s ++ t) (drop (at + length t) s) (length u)
       ∙ drop-drop (length u) (at + length t) s
       ∙ ap (λ (n : ℕ). drop n s) (add_assoc at (length t) (length u) ∙ ap (λ (n : ℕ). at + n) (sym (length-append t u))))
@@ -41,10 +41,10 @@ unfolding written
 written_one s at b h = rw (add-one, set_split s at b h, append_snoc)
 
 -- one byte more after a text is a store at the place after it
-pub written-snoc : (s : List ℕ) (at : ℕ) (t : List ℕ) (b : ℕ) → at + length t < length s → set (written s at t) (at + length t) b ≡ written s at (t ++ (b ∷ []))
-written-snoc s at t b h =
+pub written_snoc : (s : List ℕ) (at : ℕ) (t : List ℕ) (b : ℕ) → at + length t < length s → set (written s at t) (at + length t) b ≡ written s at (t ++ (b ∷ []))
+written_snoc s at t b h =
     sym (written_one (written s at t) (at + length t) b (rw (length-written s at t (omega arith)) h))
-    ∙ written-more s at t (omega arith) (b ∷ [])
+    ∙ written_more s at t (omega arith) (b ∷ [])
 
 -- no text changes nothing
 pub written_none : (s : List ℕ) (at : ℕ) → written s at [] ≡ s
@@ -52,45 +52,45 @@ unfolding written
 written_none s at = rw (add-zero, append-nil) (take-append-drop at s)
 
 -- a copy of all of t is t written
-pub paste-written : (s : List ℕ) (at : ℕ) (t : List ℕ) → paste s at t (length t) ≡ written s at t
+pub paste_written : (s : List ℕ) (at : ℕ) (t : List ℕ) → paste s at t (length t) ≡ written s at t
 unfolding written
-paste-written s at t = rw take-length
+paste_written s at t = rw take-length
 
 -- what a test of room says, where it passed and where it failed
 module _ (s : List ℕ) (at n : ℕ) {room : Bool} (e : room ≡ has_room s at n) where
   pub room_fits : room ≡ true → at + n ≤ length s
   room_fits p = leb-true (at + n) (length s) (sym e ∙ p)
 
-  pub room-lacks : room ≡ false → length s < at + n
-  room-lacks f = leb-false (at + n) (length s) (sym e ∙ f)
+  pub room_lacks : room ≡ false → length s < at + n
+  room_lacks f = leb-false (at + n) (length s) (sym e ∙ f)
 
 -- a call that asks for room for n bytes keeps its promise where it finds none and changes nothing, and where it finds it and writes its text
 module _ (s : List ℕ) (at n : ℕ) where
-  pub put-none : (t : List ℕ) → length s < at + n → (at ≡ place_after s at n t) × (s ≡ put_into s at n t)
-  put-none t h = rw (lt-leb (at + n) (length s) h) (refl, refl)
+  pub put_none : (t : List ℕ) → length s < at + n → (at ≡ place_after s at n t) × (s ≡ put_into s at n t)
+  put_none t h = rw (lt-leb (at + n) (length s) h) (refl, refl)
 
   pub put_some : {t : List ℕ} {r : ℕ} {o : List ℕ} → at + n ≤ length s → Wrote s at t r o → (r ≡ place_after s at n t) × (o ≡ put_into s at n t)
   put_some h w = rw (le-leb (at + n) (length s) h) (w.place, w.bytes)
 
 -- such a call wrote its text where it found room
-pub wrote-room : (s : List ℕ) (at n : ℕ) (t : List ℕ) {r : ℕ} {o : List ℕ} → at + n ≤ length s → r ≡ place_after s at n t → o ≡ put_into s at n t → Wrote s at t r o
-wrote-room s at n t h p b =
+pub wrote_room : (s : List ℕ) (at n : ℕ) (t : List ℕ) {r : ℕ} {o : List ℕ} → at + n ≤ length s → r ≡ place_after s at n t → o ≡ put_into s at n t → Wrote s at t r o
+wrote_room s at n t h p b =
     record { place = rw (le-leb (at + n) (length s) h) at p; bytes = rw (le-leb (at + n) (length s) h) at b }
 
 -- two calls, the second at the place that the first gave, wrote the two texts as one
-pub wrote-more : {s : List ℕ} {at : ℕ} {t : List ℕ} {p : ℕ} {o u : List ℕ} {q : ℕ} {o' : List ℕ} → at + length t ≤ length s → Wrote s at t p o → Wrote o p u q o' → Wrote s at (t ++ u) q o'
-wrote-more {s} {at} {t} {p} {o} {u} {q} {o'} h a b =
+pub wrote_more : {s : List ℕ} {at : ℕ} {t : List ℕ} {p : ℕ} {o u : List ℕ} {q : ℕ} {o' : List ℕ} → at + length t ≤ length s → Wrote s at t p o → Wrote o p u q o' → Wrote s at (t ++ u) q o'
+wrote_more {s} {at} {t} {p} {o} {u} {q} {o'} h a b =
     record {
       place = b.place ∙ ap (λ (n : ℕ). n + length u) a.place ∙ add_assoc at (length t) (length u) ∙ ap (λ (n : ℕ). at + n) (sym (length-append t u));
-      bytes = b.bytes ∙ ap (λ (x : List ℕ). written x p u) a.bytes ∙ ap (λ (n : ℕ). written (written s at t) n u) a.place ∙ written-more s at t h u;
+      bytes = b.bytes ∙ ap (λ (x : List ℕ). written x p u) a.bytes ∙ ap (λ (n : ℕ). written (written s at t) n u) a.place ∙ written_more s at t h u;
     }
 
 -- a store at the place that a call gave is one byte more of its text
-pub wrote-byte : {s : List ℕ} {at : ℕ} {t : List ℕ} {r : ℕ} {o : List ℕ} (b : ℕ) → at + length t < length s → Wrote s at t r o → Wrote s at (t ++ (b ∷ [])) (r + 1) (set o r b)
-wrote-byte {s} {at} {t} {r} {o} b h w =
+pub wrote_byte : {s : List ℕ} {at : ℕ} {t : List ℕ} {r : ℕ} {o : List ℕ} (b : ℕ) → at + length t < length s → Wrote s at t r o → Wrote s at (t ++ (b ∷ [])) (r + 1) (set o r b)
+wrote_byte {s} {at} {t} {r} {o} b h w =
     record {
       place = omega (arith, w.place, length-append t (b ∷ []));
-      bytes = ap (λ (x : List ℕ). set x r b) w.bytes ∙ ap (λ (p : ℕ). set (written s at t) p b) w.place ∙ written-snoc s at t b h;
+      bytes = ap (λ (x : List ℕ). set x r b) w.bytes ∙ ap (λ (p : ℕ). set (written s at t) p b) w.place ∙ written_snoc s at t b h;
     }
 
 -- no text was written, at any place, where nothing was changed

@@ -11,18 +11,18 @@ use Rattle.format.specs.declared.Form.{Form}
 use Rattle.format.specs.declared.Form.TheVariants.{Plain, Full}
 
 -- a word has 2k + 2 bits or more, and 2k + 4 or fewer
-pub width-least : (f : Form) (k : ℕ) → 2 * k + 2 ≤ width_in f k
-width-least Plain k = omega arith
-width-least Full k = omega arith
+pub width_least : (f : Form) (k : ℕ) → 2 * k + 2 ≤ width_in f k
+width_least Plain k = omega arith
+width_least Full k = omega arith
 
-pub width-most : (f : Form) (k : ℕ) → width_in f k ≤ 2 * k + 4
-width-most Plain k = omega arith
-width-most Full k = omega arith
+pub width_most : (f : Form) (k : ℕ) → width_in f k ≤ 2 * k + 4
+width_most Plain k = omega arith
+width_most Full k = omega arith
 
 -- there is a word for each node below the last, and none behind the last node
-pub count-least : (f : Form) (k : ℕ) → 2 ^ k ≤ count_in f k
-count-least Plain k = omega arith
-count-least Full k = omega arith
+pub count_least : (f : Form) (k : ℕ) → 2 ^ k ≤ count_in f k
+count_least Plain k = omega arith
+count_least Full k = omega arith
 
 pub count_most : (f : Form) (k : ℕ) → count_in f k ≤ 2 ^ k + 1
 count_most Plain k = omega arith
@@ -40,5 +40,5 @@ pub no_words : (f : Form) (k : ℕ) → cond (in_range k) (count_in f k) 0 ≡ 0
 no_words f k e = by (in_range k) refl
   where
     by : (b : Bool) → in_range k ≡ b → in_range k ≡ false
-    by true r = absurd (omega (arith, sym (ap (λ (b : Bool). cond b (count_in f k) 0) r) ∙ e, count-least f k, pow_pos k))
+    by true r = absurd (omega (arith, sym (ap (λ (b : Bool). cond b (count_in f k) 0) r) ∙ e, count_least f k, pow_pos k))
     by false r = r

@@ -12,23 +12,23 @@ use Rattle.layout.specs.Refusals.{image_refusal, tail_refusal}
 use Rattle.image.specs.Image.{plain}
 use Rattle.image.specs.Calls.{check_outcome}
 use Rattle.image.specs.Inner.{refusal_number}
-use Rattle.image.proofs.Limits.{limit-passes}
+use Rattle.image.proofs.Limits.{limit_passes}
 
 module _ (k : ℕ) (s : List ℕ) (limit : refusal_number k (length s) ≡ 0) where
   decides : check_outcome k s ≡ outcome (image_refusal (plain k) s ∷ tail_refusal (plain k) s ∷ []) 0
-  decides = limit-passes k s (image_refusal (plain k) s ∷ tail_refusal (plain k) s ∷ []) 0 limit
+  decides = limit_passes k s (image_refusal (plain k) s ∷ tail_refusal (plain k) s ∷ []) 0 limit
 
   -- a word is wrong, whatever the tail holds
-  pub check-wrong : first_wrong (plain k) s < 2 ^ k → check_outcome k s ≡ record { number = 6; place = first_wrong (plain k) s; value = 0 }
-  check-wrong h = decides ∙ applied (image_refusal (plain k) s) (tail_refusal (plain k) s ∷ []) 0 (lt-ltb (first_wrong (plain k) s) (2 ^ k) h)
+  pub check_wrong : first_wrong (plain k) s < 2 ^ k → check_outcome k s ≡ record { number = 6; place = first_wrong (plain k) s; value = 0 }
+  check_wrong h = decides ∙ applied (image_refusal (plain k) s) (tail_refusal (plain k) s ∷ []) 0 (lt-ltb (first_wrong (plain k) s) (2 ^ k) h)
 
   -- the words are right
   module _ (right : 2 ^ k ≤ first_wrong (plain k) s) where
     behind : check_outcome k s ≡ outcome (tail_refusal (plain k) s ∷ []) 0
     behind = decides ∙ passed (image_refusal (plain k) s) (tail_refusal (plain k) s ∷ []) 0 (le-ltb (first_wrong (plain k) s) (2 ^ k) right)
 
-    pub check-past : first_past (plain k) s < length s → check_outcome k s ≡ record { number = 7; place = first_past (plain k) s; value = 0 }
-    check-past h = behind ∙ applied (tail_refusal (plain k) s) [] 0 (lt-ltb (first_past (plain k) s) (length s) h)
+    pub check_past : first_past (plain k) s < length s → check_outcome k s ≡ record { number = 7; place = first_past (plain k) s; value = 0 }
+    check_past h = behind ∙ applied (tail_refusal (plain k) s) [] 0 (lt-ltb (first_past (plain k) s) (length s) h)
 
-    pub check-none : length s ≤ first_past (plain k) s → check_outcome k s ≡ served 0
-    check-none h = behind ∙ passed (tail_refusal (plain k) s) [] 0 (le-ltb (first_past (plain k) s) (length s) h)
+    pub check_none : length s ≤ first_past (plain k) s → check_outcome k s ≡ served 0
+    check_none h = behind ∙ passed (tail_refusal (plain k) s) [] 0 (le-ltb (first_past (plain k) s) (length s) h)

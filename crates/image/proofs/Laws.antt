@@ -26,9 +26,9 @@ eighths (suc (suc q)) h =
 
 -- so the words take whole bytes
 module _ (k : ℕ) (one : 1 ≤ k) where
-  pub whole-bytes : Whole (plain k)
-  whole-bytes = omega (arith, eighths k one)
+  pub whole_bytes : Whole (plain k)
+  whole_bytes = omega (arith, eighths k one)
 
   -- as many as document 01 says
-  pub eighth-of-bits : image_length k ≡ 2 ^ k * (2 * k + 2) / 8
-  eighth-of-bits = omega (arith, eighths k one)
+  pub eighth_of_bits : image_length k ≡ 2 ^ k * (2 * k + 2) / 8
+  eighth_of_bits = omega (arith, eighths k one)

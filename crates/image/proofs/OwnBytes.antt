@@ -13,22 +13,22 @@ use Rattle.layout.proofs.Laws as layouts
 use Rattle.image.specs.Image.{plain, word_of}
 use Rattle.image.specs.Inner.{own_bytes}
 use Rattle.image.proofs.Laws.{plain_fits}
-use Rattle.image.proofs.Limits.{ImageKept, limit-none}
+use Rattle.image.proofs.Limits.{ImageKept, limit_none}
 
 module _ (k : ℕ) (s : List ℕ) (kept : ImageKept k s) where
-  pub own-taken : own_bytes k s ≡ take (image_length k) s
-  own-taken = rw (limit-none k s kept.low kept.high kept.long)
+  pub own_taken : own_bytes k s ≡ take (image_length k) s
+  own_taken = rw (limit_none k s kept.low kept.high kept.long)
 
-  pub own-length : length (own_bytes k s) ≡ image_length k
-  own-length = ap length own-taken ∙ length-take (image_length k) s ∙ omega (arith, kept.long)
+  pub own_length : length (own_bytes k s) ≡ image_length k
+  own_length = ap length own_taken ∙ length-take (image_length k) s ∙ omega (arith, kept.long)
 
   -- they are bytes where the buffer's are
   pub own-bytes : Bytes s → Bytes (own_bytes k s)
-  own-bytes h = rw own-taken (bytes_take (image_length k) s h)
+  own-bytes h = rw own_taken (bytes_take (image_length k) s h)
 
   -- a word is the same, and so is the lowest wrong one
-  pub own-word : (j : ℕ) → j < word_count k → word_of k (own_bytes k s) j ≡ word_of k s j
-  own-word j h = ap (λ (u : List ℕ). word_of k u j) own-taken ∙ layouts.own-word (plain k) (plain_fits k) s j h
+  pub own_word : (j : ℕ) → j < word_count k → word_of k (own_bytes k s) j ≡ word_of k s j
+  own_word j h = ap (λ (u : List ℕ). word_of k u j) own_taken ∙ layouts.own_word (plain k) (plain_fits k) s j h
 
-  pub own-wrong : first_wrong (plain k) (own_bytes k s) ≡ first_wrong (plain k) s
-  own-wrong = ap (first_wrong (plain k)) own-taken ∙ layouts.own-wrong (plain k) (plain_fits k) s
+  pub own_wrong : first_wrong (plain k) (own_bytes k s) ≡ first_wrong (plain k) s
+  own_wrong = ap (first_wrong (plain k)) own_taken ∙ layouts.own_wrong (plain k) (plain_fits k) s

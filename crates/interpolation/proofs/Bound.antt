@@ -8,7 +8,7 @@ use native.Mathlib.Omega.{arith}
 use lib.Pow.{pow_pos, pow_mono}
 use Rattle.quotient.specs.Quotient.{rounded_up}
 use Rattle.operand.specs.Operand.{cut_to}
-use Rattle.operand.proofs.Laws.{cut-split, cut-rest, cut_range}
+use Rattle.operand.proofs.Laws.{cut_split, cut_rest, cut_range}
 use Rattle.interpolation.specs.Algorithm.{sum_over}
 use Rattle.interpolation.specs.Reciprocal.{reciprocal}
 use Rattle.interpolation.proofs.Core as core
@@ -33,8 +33,8 @@ module _ (a b k : ℕ) where
   abbrev exact_at : ℕ
   exact_at = 2 * 2 ^ b * (2 ^ k * 2 ^ k * 2 ^ k * 2 ^ k)
 
-  exact-positive : 0 < exact_at
-  exact-positive =
+  exact_positive : 0 < exact_at
+  exact_positive =
       mul-pos (mul-pos (omega arith) (pow_pos b)) (mul-pos (mul-pos (mul-pos (pow_pos k) (pow_pos k)) (pow_pos k)) (pow_pos k))
 
   -- nodes that keep the laws
@@ -43,12 +43,12 @@ module _ (a b k : ℕ) where
     pub cut_low : (t : ℕ) → 2 ^ (2 * k + b) ≤ t → t < 2 ^ (2 * k + (b + 1)) → exact_at < (reciprocal_by c t + 1) * t
     cut_low t l m =
         rw (powers.unit k a b, powers.width k a b)
-        (table.bound-low nodes t (rw (powers.least k a b) at l) (rw (powers.most k a b) at m))
+        (table.bound_low nodes t (rw (powers.least k a b) at l) (rw (powers.most k a b) at m))
 
     pub cut_high : (t : ℕ) → 2 ^ (2 * k + b) ≤ t → t < 2 ^ (2 * k + (b + 1)) → reciprocal_by c t * (t + 1) ≤ exact_at + (t + 1)
     cut_high t l m =
         rw (powers.unit k a b, powers.width k a b)
-        (table.bound-high nodes t (rw (powers.least k a b) at l) (rw (powers.most k a b) at m))
+        (table.bound_high nodes t (rw (powers.least k a b) at l) (rw (powers.most k a b) at m))
 
     -- of an operand X with n fraction bits, cut or padded: X × 2^(2k+b-n) is t × 2^(n-2k-b) and a rest, and one of the powers is 1
     module _ (n X : ℕ) (least : 2 ^ n ≤ X) (below : X < 2 ^ (n + 1)) where
@@ -71,21 +71,21 @@ module _ (a b k : ℕ) where
       to : t < 2 ^ (2 * k + (b + 1))
       to = rw (longer k b) (cut_range (2 * k + b) n X least below).1
 
-      padded-low : 2 ^ (n + 2 * k + 1) * Q < reciprocal_by c t * (X * Q) + X * Q
-      padded-low =
+      padded_low : 2 ^ (n + 2 * k + 1) * Q < reciprocal_by c t * (X * Q) + X * Q
+      padded_low =
           rw (powers.exact k a b n)
-          (rw (cut-split (2 * k + b) n X) at (core.operand_low exact_at (reciprocal_by c t) t S rest (cut_low t from to) (cut-rest (2 * k + b) n X)))
+          (rw (cut_split (2 * k + b) n X) at (core.operand_low exact_at (reciprocal_by c t) t S rest (cut_low t from to) (cut_rest (2 * k + b) n X)))
 
-      padded-high : reciprocal_by c t * (X * Q) < 2 ^ (n + 2 * k + 1) * Q + X * Q
-      padded-high =
+      padded_high : reciprocal_by c t * (X * Q) < 2 ^ (n + 2 * k + 1) * Q + X * Q
+      padded_high =
           rw (powers.exact k a b n)
-          (rw (cut-split (2 * k + b) n X) at (core.operand-high exact_at t S rest (reciprocal_by c t) exact-positive (cut_high t from to) (cut-rest (2 * k + b) n X)))
+          (rw (cut_split (2 * k + b) n X) at (core.operand_high exact_at t S rest (reciprocal_by c t) exact_positive (cut_high t from to) (cut_rest (2 * k + b) n X)))
 
       pub operand_low : 2 ^ (n + 2 * k + 1) < reciprocal_by c t * X + X
-      operand_low = lt_of_mul-lt-mul_right Q (omega (arith, padded-low))
+      operand_low = lt_of_mul-lt-mul_right Q (omega (arith, padded_low))
 
-      pub operand-high : reciprocal_by c t * X < 2 ^ (n + 2 * k + 1) + X
-      operand-high = lt_of_mul-lt-mul_right Q (omega (arith, padded-high))
+      pub operand_high : reciprocal_by c t * X < 2 ^ (n + 2 * k + 1) + X
+      operand_high = lt_of_mul-lt-mul_right Q (omega (arith, padded_high))
 
 -- the nodes of document 01's construction with a table guard bits keep the laws
 pub rounded-up : (a b k : ℕ) → 2 ≤ a → 3 ≤ b → Table (2 ^ a) (2 ^ b) (2 ^ k) (λ (j : ℕ). rounded_up (2 ^ (3 * k + (a + 1))) (2 ^ k + j)) (λ (j : ℕ). 1) (λ (j : ℕ). 2 ^ a - 1)
@@ -97,8 +97,8 @@ rounded-up a b k units steps =
 
 -- at two table and three input guard bits: R of every k
 module _ (k n X : ℕ) (least : 2 ^ n ≤ X) (below : X < 2 ^ (n + 1)) where
-  pub reciprocal-high : reciprocal k n X * X < 2 ^ (n + 2 * k + 1) + X
-  reciprocal-high = operand-high 2 3 k (rounded-up 2 3 k (omega arith) (omega arith)) n X least below
+  pub reciprocal_high : reciprocal k n X * X < 2 ^ (n + 2 * k + 1) + X
+  reciprocal_high = operand_high 2 3 k (rounded-up 2 3 k (omega arith) (omega arith)) n X least below
 
-  pub reciprocal-low : 2 ^ (n + 2 * k + 1) < reciprocal k n X * X + X
-  reciprocal-low = operand_low 2 3 k (rounded-up 2 3 k (omega arith) (omega arith)) n X least below
+  pub reciprocal_low : 2 ^ (n + 2 * k + 1) < reciprocal k n X * X + X
+  reciprocal_low = operand_low 2 3 k (rounded-up 2 3 k (omega arith) (omega arith)) n X least below

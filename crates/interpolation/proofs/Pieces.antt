@@ -8,19 +8,19 @@ use lib.Arith.{digits_div, digits_mod}
 
 module _ (K F t : ℕ) (wide : 0 < F) (least : K * F ≤ t) (most : t < 2 * K * F) where
   -- i is from K up to 2 × K
-  pub index-least : K ≤ t / F
-  index-least = (le-div_iff_mul-le wide).1 least
+  pub index_least : K ≤ t / F
+  index_least = (le-div_iff_mul-le wide).1 least
 
-  pub index-most : t / F < 2 * K
-  index-most = (div-lt_iff_lt-mul wide).1 most
+  pub index_most : t / F < 2 * K
+  index_most = (div-lt_iff_lt-mul wide).1 most
 
   -- j is below K
-  pub number-below : t / F - K < K
-  number-below = omega (arith, index-least, index-most)
+  pub number_below : t / F - K < K
+  number_below = omega (arith, index_least, index_most)
 
   -- i = K + j
   pub index_number : K + (t / F - K) ≡ t / F
-  index_number = omega (arith, index-least)
+  index_number = omega (arith, index_least)
 
   -- f is below F
   pub rest_below : t % F < F
@@ -35,8 +35,8 @@ module _ (q F t : ℕ) (wide : 0 < F) (last : t + 1 ≡ (q + 1) * F) where
   end : t ≡ q * F + (F - 1)
   end = omega (arith, last)
 
-  pub last-index : t / F ≡ q
-  last-index = ap (λ (x : ℕ). x / F) end ∙ digits_div q {m = F} {r = F - 1} (omega arith)
+  pub last_index : t / F ≡ q
+  last_index = ap (λ (x : ℕ). x / F) end ∙ digits_div q {m = F} {r = F - 1} (omega arith)
 
   pub last_rest : t % F ≡ F - 1
   last_rest = ap (λ (x : ℕ). x % F) end ∙ digits_mod q {m = F} {r = F - 1} (omega arith)

@@ -5,7 +5,7 @@ use Prim.Native.Nat.{ℕ, ◌+◌, ◌-◌, ◌*◌, ◌≤◌, ◌<◌}
 use native.Mathlib.Nat.{add_assoc, mul-le-mul, mul-le-mul_left, mul-le-mul_right}
 use native.Mathlib.Omega.{arith}
 use Rattle.quotient.specs.Quotient.{rounded_up}
-use Rattle.quotient.proofs.Laws.{reaches, passes-less, antitone}
+use Rattle.quotient.proofs.Laws.{reaches, passes_less, antitone}
 use Rattle.interpolation.proofs.Table.{Table, numerator_of}
 
 -- the room that is left of an ulp when a node is rounded up, by the spare units x and steps y
@@ -23,15 +23,15 @@ square : (K i : ℕ) → K ≤ i → K * K * (i + 1) ≤ i * i * (i + 1)
 square K i h = mul-le-mul_right (i + 1) (mul-le-mul h h)
 
 module _ (A B K : ℕ) (units : 4 ≤ A) (steps : 8 ≤ B) (some : 0 < K) where
-  spare-at : A * B + 4 * A ≤ 2 * (A - 1) * B
-  spare-at =
+  spare_at : A * B + 4 * A ≤ 2 * (A - 1) * B
+  spare_at =
       let a : 4 + (A - 4) ≡ A = omega arith in
       let d : 3 + (A - 4) ≡ A - 1 = omega arith in
       let b : 8 + (B - 8) ≡ B = omega arith in
       rw (a, b, d) at (spare (A - 4) (B - 8))
 
   high : (i : ℕ) → 0 < i → rounded_up (numerator_of A K) i * i ≤ numerator_of A K + 1 * i
-  high i p = omega (arith, passes-less (numerator_of A K) i p)
+  high i p = omega (arith, passes_less (numerator_of A K) i p)
 
   pub keeps : Table A B K (λ (j : ℕ). rounded_up (numerator_of A K) (K + j)) (λ (j : ℕ). 1) (λ (j : ℕ). A - 1)
   keeps =
@@ -45,5 +45,5 @@ module _ (A B K : ℕ) (units : 4 ≤ A) (steps : 8 ≤ B) (some : 0 < K) where
         right = λ j h. rw add_assoc (high (K + (j + 1)) (omega arith));
         excess = λ j h. omega arith;
         room = λ j h.
-            room_of A B (A - 1) (K * K) (K * K * K) (K + j) ((K + j) * (K + j) * (K + j + 1)) spare-at (cube K (K + j) (omega arith)) (square K (K + j) (omega arith));
+            room_of A B (A - 1) (K * K) (K * K * K) (K + j) ((K + j) * (K + j) * (K + j + 1)) spare_at (cube K (K + j) (omega arith)) (square K (K + j) (omega arith));
       }

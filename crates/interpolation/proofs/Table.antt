@@ -30,25 +30,25 @@ pub record Table (A B K : ℕ) (c E D : ℕ → ℕ) : Type 0 where
 sum_more : (c' d f g : ℕ) → (c' + d) * (f + g) - d * f ≡ (c' + d) * g + c' * f
 sum_more c' d f g = omega arith
 
-pub sum-parts : (c c' F f : ℕ) → c' ≤ c → f ≤ F → sum_over F c c' f ≡ c * (F - f) + c' * f
-sum-parts c c' F f h l =
+pub sum_parts : (c c' F f : ℕ) → c' ≤ c → f ≤ F → sum_over F c c' f ≡ c * (F - f) + c' * f
+sum_parts c c' F f h l =
     let e : c' + (c - c') ≡ c = omega arith in
     let w : f + (F - f) ≡ F = omega arith in
     rw (e, w) at (sum_more c' (c - c') f (F - f))
 
 -- P lies between both nodes
-pub sum-least : (c c' F f : ℕ) → c' ≤ c → f ≤ F → c' * F ≤ sum_over F c c' f
-sum-least c c' F f h l =
+pub sum_least : (c c' F f : ℕ) → c' ≤ c → f ≤ F → c' * F ≤ sum_over F c c' f
+sum_least c c' F f h l =
     let w : f + (F - f) ≡ F = omega arith in
-    rw (sum-parts c c' F f h l) (omega (arith, mul-le-mul_left (F - f) h, ap (λ (x : ℕ). c' * x) w))
+    rw (sum_parts c c' F f h l) (omega (arith, mul-le-mul_left (F - f) h, ap (λ (x : ℕ). c' * x) w))
 
 -- the core with the width, the operand and P by their names
-low-at : (M i c c' F f g t P : ℕ) → f + g ≡ F → i * F + f ≡ t → P ≡ c * g + c' * f → 0 < i → M ≤ c * i → M ≤ c' * (i + 1) → M * (F * F) ≤ P * t
-low-at M i c c' F f g t P w e s p h h' = rw (s, ← e, ← w) (core.low M i c c' f g p h h')
+low_at : (M i c c' F f g t P : ℕ) → f + g ≡ F → i * F + f ≡ t → P ≡ c * g + c' * f → 0 < i → M ≤ c * i → M ≤ c' * (i + 1) → M * (F * F) ≤ P * t
+low_at M i c c' F f g t P w e s p h h' = rw (s, ← e, ← w) (core.low M i c c' f g p h h')
 
-high-at : (M i c c' E D F f g t P : ℕ) → f + g ≡ F → i * F + f ≡ t → P ≡ c * g + c' * f → 0 < i → c * i ≤ M + E * i → c' * (i + 1) ≤ M + E * (i + 1)
+high_at : (M i c c' E D F f g t P : ℕ) → f + g ≡ F → i * F + f ≡ t → P ≡ c * g + c' * f → 0 < i → c * i ≤ M + E * i → c' * (i + 1) ≤ M + E * (i + 1)
     → M * F + 4 * M * (i + 1) ≤ 4 * D * (i * i * (i + 1)) * F → P * (t + 1) ≤ M * (F * F) + (E + D) * F * (t + 1)
-high-at M i c c' E D F f g t P w e s p h h' room = rw (s, ← e, ← w) (core.high M i c c' f g E D p h h' (rw w room))
+high_at M i c c' E D F f g t P w e s p h h' room = rw (s, ← e, ← w) (core.high M i c c' f g E D p h h' (rw w room))
 
 -- the exact value and the unit, by K, A and B
 exact : (A B K : ℕ) → 2 * B * (K * K * K * K) * (A * (B * K)) ≡ 2 * A * (K * K * K) * (B * K * (B * K))
@@ -80,32 +80,32 @@ module _ {A B K : ℕ} {c E D : ℕ → ℕ} (table : Table A B K c E D) (t : �
   unit = mul-pos table.units wide
 
   below : j < K
-  below = pieces.number-below K (B * K) t wide least most
+  below = pieces.number_below K (B * K) t wide least most
 
   whole : f + (B * K - f) ≡ B * K
   whole = omega (arith, pieces.rest_below K (B * K) t wide least most)
 
   sum : product_sum_at ≡ c j * (B * K - f) + c (j + 1) * f
-  sum = sum-parts (c j) (c (j + 1)) (B * K) f (table.falls j below) (omega (arith, pieces.rest_below K (B * K) t wide least most))
+  sum = sum_parts (c j) (c (j + 1)) (B * K) f (table.falls j below) (omega (arith, pieces.rest_below K (B * K) t wide least most))
 
   -- no t is 0
   positive : 0 < t
   positive = omega (arith, mul-pos table.some wide)
 
   -- R is within an ulp from below: N < (R + 1) × t
-  pub bound-low : 2 * B * (K * K * K * K) < (reciprocal_at + 1) * t
-  bound-low =
-      core.chopped-low (2 * B * (K * K * K * K)) (A * (B * K)) product_sum_at reciprocal_at t positive
+  pub bound_low : 2 * B * (K * K * K * K) < (reciprocal_at + 1) * t
+  bound_low =
+      core.chopped_low (2 * B * (K * K * K * K)) (A * (B * K)) product_sum_at reciprocal_at t positive
       (omega (arith, lt-div-mul-add {a = product_sum_at} unit))
       (rw (exact A B K)
-      (low-at (numerator_of A K) (K + j) (c j) (c (j + 1)) (B * K) f (B * K - f) t product_sum_at whole (pieces.parts K (B * K) t wide least most) sum
+      (low_at (numerator_of A K) (K + j) (c j) (c (j + 1)) (B * K) f (B * K - f) t product_sum_at whole (pieces.parts K (B * K) t wide least most) sum
       (omega (arith, table.some)) (table.above j (le_of_lt below)) (rw add_assoc (table.above (j + 1) (omega (arith, below))))))
 
   -- and from above: R × (t + 1) ≤ N + (t + 1)
-  pub bound-high : reciprocal_at * (t + 1) ≤ 2 * B * (K * K * K * K) + (t + 1)
-  bound-high =
-      core.chopped-high (2 * B * (K * K * K * K)) (A * (B * K)) product_sum_at reciprocal_at t unit
+  pub bound_high : reciprocal_at * (t + 1) ≤ 2 * B * (K * K * K * K) + (t + 1)
+  bound_high =
+      core.chopped_high (2 * B * (K * K * K * K)) (A * (B * K)) product_sum_at reciprocal_at t unit
       (div-mul-le_self product_sum_at (A * (B * K)))
       (rw (exact A B K)
-      (rw (table.excess j below) at (high-at (numerator_of A K) (K + j) (c j) (c (j + 1)) (E j) (D j) (B * K) f (B * K - f) t product_sum_at whole (pieces.parts K (B * K) t wide least most) sum
+      (rw (table.excess j below) at (high_at (numerator_of A K) (K + j) (c j) (c (j + 1)) (E j) (D j) (B * K) f (B * K - f) t product_sum_at whole (pieces.parts K (B * K) t wide least most) sum
       (omega (arith, table.some)) (table.left j below) (table.right j below) (room_at A B K (D j) (K + j) (table.room j below)))))

@@ -13,46 +13,46 @@ use lib.Seq.{take_all, take-suc, take_at, get_or_at, length-take-le}
 use Rattle.decimal.specs.Decimal.{is_digits, decimal_value}
 use Rattle.decimal.specs.Reading.{reading}
 use Rattle.decimal.specs.declared.Reading.TheVariants.{Number, Other}
-use Rattle.decimal.proofs.Laws.{reading-number, is_all, is_some, value-below}
+use Rattle.decimal.proofs.Laws.{reading_number, is_all, is_some, value_below}
 use Rattle.lines.specs.Lines.{line_feed, body, line_reading}
 
 module _ (s : List ℕ) (most : ℕ) where
   -- more bytes before the last, and another byte at the end
-  pub read-long : most + 1 < length s → line_reading s most ≡ Other
+  pub read_long : most + 1 < length s → line_reading s most ≡ Other
   unfolding line_reading
-  read-long h = rw (lt-leb (length s) (most + 1) h)
+  read_long h = rw (lt-leb (length s) (most + 1) h)
 
-  pub read-open : (get_or s (length s - 1) 0 ≡ line_feed → ⊥) → line_reading s most ≡ Other
+  pub read_open : (get_or s (length s - 1) 0 ≡ line_feed → ⊥) → line_reading s most ≡ Other
   unfolding line_reading
-  read-open h = rw (ne_eqb (get_or s (length s - 1) 0) line_feed h) (other (leb (length s) (most + 1)))
+  read_open h = rw (ne_eqb (get_or s (length s - 1) 0) line_feed h) (other (leb (length s) (most + 1)))
     where
       other : (t : Bool) → cond (t && false) (reading (body s)) Other ≡ Other
       other true = refl
       other false = refl
 
   -- neither
-  pub read-ended : length s ≤ most + 1 → get_or s (length s - 1) 0 ≡ line_feed → line_reading s most ≡ reading (body s)
+  pub read_ended : length s ≤ most + 1 → get_or s (length s - 1) 0 ≡ line_feed → line_reading s most ≡ reading (body s)
   unfolding line_reading
-  read-ended fits h = rw (le-leb (length s) (most + 1) fits, eq-eqb (get_or s (length s - 1) 0) line_feed h)
+  read_ended fits h = rw (le-leb (length s) (most + 1) fits, eq-eqb (get_or s (length s - 1) 0) line_feed h)
 
 -- no byte at all
 pub read_none : (s : List ℕ) (most : ℕ) → length s ≡ 0 → line_reading s most ≡ Other
-read_none [] most h = read-open [] most (λ e. omega (arith, e))
+read_none [] most h = read_open [] most (λ e. omega (arith, e))
 read_none (b ∷ s) most h = absurd (omega arith)
 
 -- 1 to `most` digits that stand for a number below 2^64, and a line feed, are read as that number
-pub digits-read : (most : ℕ) (d : List ℕ) → is_digits d ≡ true → length d ≤ most → decimal_value d < 2 ^ 64 → line_reading (d ++ line_feed ∷ []) most ≡ Number (decimal_value d)
-digits-read most d e h v =
+pub digits_read : (most : ℕ) (d : List ℕ) → is_digits d ≡ true → length d ≤ most → decimal_value d < 2 ^ 64 → line_reading (d ++ line_feed ∷ []) most ≡ Number (decimal_value d)
+digits_read most d e h v =
     let n : length (d ++ line_feed ∷ []) ≡ length d + 1 = length-append d (line_feed ∷ []) in
     let m : length (d ++ line_feed ∷ []) - 1 ≡ length d = omega (arith, n) in
-    read-ended (d ++ line_feed ∷ []) most (omega (arith, n)) (get_or_at d line_feed [] 0 (length (d ++ line_feed ∷ []) - 1) (sym m))
+    read_ended (d ++ line_feed ∷ []) most (omega (arith, n)) (get_or_at d line_feed [] 0 (length (d ++ line_feed ∷ []) - 1) (sym m))
     ∙ ap reading (take_at d (line_feed ∷ []) (length (d ++ line_feed ∷ []) - 1) (sym m))
     ∙ rw (e, lt-ltb (decimal_value d) (2 ^ 64) v)
 
 -- and nothing else is read as a number
-pub read-digits : (s : List ℕ) (most v : ℕ) → line_reading s most ≡ Number v → (d : List ℕ) × (is_digits d ≡ true) × (length d ≤ most) × (s ≡ d ++ line_feed ∷ []) × (decimal_value d ≡ v)
+pub read_digits : (s : List ℕ) (most v : ℕ) → line_reading s most ≡ Number v → (d : List ℕ) × (is_digits d ≡ true) × (length d ≤ most) × (s ≡ d ++ line_feed ∷ []) × (decimal_value d ≡ v)
 unfolding line_reading
-read-digits s most v e = go (leb (length s) (most + 1)) (eqb (get_or s (length s - 1) 0) line_feed) refl refl e
+read_digits s most v e = go (leb (length s) (most + 1)) (eqb (get_or s (length s - 1) 0) line_feed) refl refl e
   where
     within : length (body s) ≡ length s - 1
     within = length-take-le (length s - 1) s (omega arith)
@@ -60,7 +60,7 @@ read-digits s most v e = go (leb (length s) (most + 1)) (eqb (get_or s (length s
     go : (x y : Bool) → leb (length s) (most + 1) ≡ x → eqb (get_or s (length s - 1) 0) line_feed ≡ y → cond (x && y) (reading (body s)) Other ≡ Number v
         → (d : List ℕ) × (is_digits d ≡ true) × (length d ≤ most) × (s ≡ d ++ line_feed ∷ []) × (decimal_value d ≡ v)
     go true true p q r =
-        let n = reading-number (body s) v r in
+        let n = reading_number (body s) v r in
         let some = is_some (body s) n.0 in
         let whole : s ≡ body s ++ line_feed ∷ [] =
         sym (take_all (suc (length s - 1)) s (omega (arith, within)))
@@ -73,15 +73,15 @@ read-digits s most v e = go (leb (length s) (most + 1)) (eqb (get_or s (length s
 -- so it has no more than `most` digits
 pub read_below : (s : List ℕ) (most v : ℕ) → line_reading s most ≡ Number v → v < 10 ^ most
 read_below s most v e =
-    let r = read-digits s most v e in
-    omega (arith, r.4, value-below r.0 (is_all r.0 r.1), pow-le-pow_right {n = 10} (omega arith) r.2)
+    let r = read_digits s most v e in
+    omega (arith, r.4, value_below r.0 (is_all r.0 r.1), pow-le-pow_right {n = 10} (omega arith) r.2)
 
 -- `most` + 2 bytes or more of a text are read as all of it is
-pub read-prefix : (n most : ℕ) (s : List ℕ) → most + 2 ≤ n → line_reading (take n s) most ≡ line_reading s most
-read-prefix n most s h = go (leb (length s) n) refl
+pub read_prefix : (n most : ℕ) (s : List ℕ) → most + 2 ≤ n → line_reading (take n s) most ≡ line_reading s most
+read_prefix n most s h = go (leb (length s) n) refl
   where
     go : (x : Bool) → leb (length s) n ≡ x → line_reading (take n s) most ≡ line_reading s most
     go true e = ap (λ (t : List ℕ). line_reading t most) (take_all n s (leb-true (length s) n e))
     go false e =
         let l : n < length s = leb-false (length s) n e in
-        read-long (take n s) most (rw (length-take-le n s (omega arith)) (omega arith)) ∙ sym (read-long s most (omega arith))
+        read_long (take n s) most (rw (length-take-le n s (omega arith)) (omega arith)) ∙ sym (read_long s most (omega arith))

@@ -16,108 +16,108 @@ use Rattle.nodes.specs.Nodes.{numerator, node, leading_one, stored_word, decode_
 use Rattle.nodes.proofs.Laws as laws
 use Rattle.nodes.proofs.Laws.{Shape, node_at}
 use Rattle.nodes.proofs.Powers as powers
-use Rattle.nodes.proofs.Powers.{double, step, step-wide}
+use Rattle.nodes.proofs.Powers.{double, step, step_wide}
 
 module _ (k : ℕ) where
   shape : Shape (2 ^ (2 * k + 2)) (2 ^ k)
   shape = powers.shape k 2 (omega arith)
 
   -- node j over plain numbers
-  pub node-is : (j : ℕ) → node k j ≡ node_at (2 ^ (2 * k + 2)) (2 ^ k) j
-  node-is j = ap (λ (M : ℕ). rounded_up M (2 ^ k + j)) (powers.numerator k 2)
+  pub node_is : (j : ℕ) → node k j ≡ node_at (2 ^ (2 * k + 2)) (2 ^ k) j
+  node_is j = ap (λ (M : ℕ). rounded_up M (2 ^ k + j)) (powers.numerator k 2)
 
   -- the double of the leading one
-  pub lead-double : 2 * 2 ^ (2 * k + 2) ≡ 2 ^ (2 * k + 3)
-  lead-double = sym (double (2 * k + 2)) ∙ ap (λ (n : ℕ). 2 ^ n) {x = 2 * k + 2 + 1} {y = 2 * k + 3} (omega arith)
+  pub lead_double : 2 * 2 ^ (2 * k + 2) ≡ 2 ^ (2 * k + 3)
+  lead_double = sym (double (2 * k + 2)) ∙ ap (λ (n : ℕ). 2 ^ n) {x = 2 * k + 2 + 1} {y = 2 * k + 3} (omega arith)
 
   -- node 0 is 2^(2k+3)
-  pub node-first : node k 0 ≡ 2 ^ (2 * k + 3)
-  node-first = node-is 0 ∙ laws.first shape ∙ lead-double
+  pub node_first : node k 0 ≡ 2 ^ (2 * k + 3)
+  node_first = node_is 0 ∙ laws.first shape ∙ lead_double
 
   -- node 2^k is 2^(2k+2)
-  pub node-last : node k (2 ^ k) ≡ 2 ^ (2 * k + 2)
-  node-last = node-is (2 ^ k) ∙ laws.last shape
+  pub node_last : node k (2 ^ k) ≡ 2 ^ (2 * k + 2)
+  node_last = node_is (2 ^ k) ∙ laws.last shape
 
   -- a node before node 2^k is above 2^(2k+2)
-  pub node-above : (j : ℕ) → j < 2 ^ k → 2 ^ (2 * k + 2) < node k j
-  node-above j h = rw node-is (laws.above shape j h)
+  pub node_above : (j : ℕ) → j < 2 ^ k → 2 ^ (2 * k + 2) < node k j
+  node_above j h = rw node_is (laws.above shape j h)
 
   -- a node after node 0 is below 2^(2k+3)
-  pub node-below : (j : ℕ) → 0 < j → node k j < 2 ^ (2 * k + 3)
-  node-below j h =
-      rw (node-is, ← lead-double) (laws.below shape j h)
+  pub node_below : (j : ℕ) → 0 < j → node k j < 2 ^ (2 * k + 3)
+  node_below j h =
+      rw (node_is, ← lead_double) (laws.below shape j h)
 
   -- each node is below the one before it
-  pub node-falls : (j : ℕ) → j < 2 ^ k → node k (j + 1) < node k j
-  node-falls j h =
-      rw (node-is j, node-is (j + 1)) (laws.falls shape j h)
+  pub node_falls : (j : ℕ) → j < 2 ^ k → node k (j + 1) < node k j
+  node_falls j h =
+      rw (node_is j, node_is (j + 1)) (laws.falls shape j h)
 
   -- a later node is no greater
-  pub node-ordered : {i j : ℕ} → i ≤ j → node k j ≤ node k i
-  node-ordered {i} {j} h = antitone (2 ^ (3 * k + 3)) {i = 2 ^ k + i} {i' = 2 ^ k + j} (omega (arith, pow_pos k)) (omega arith)
+  pub node_ordered : {i j : ℕ} → i ≤ j → node k j ≤ node k i
+  node_ordered {i} {j} h = antitone (2 ^ (3 * k + 3)) {i = 2 ^ k + i} {i' = 2 ^ k + j} (omega (arith, pow_pos k)) (omega arith)
 
   -- and none is greater than node 0
-  pub node-most : (j : ℕ) → node k j ≤ 2 ^ (2 * k + 3)
-  node-most j = omega (arith, node-first, node-ordered {i = 0} {j = j} (omega arith))
+  pub node_most : (j : ℕ) → node k j ≤ 2 ^ (2 * k + 3)
+  node_most j = omega (arith, node_first, node_ordered {i = 0} {j = j} (omega arith))
 
   -- neighbours differ by less than 2^(k+3) (document 002, Lemma 1)
-  pub node-near : (j : ℕ) → node k j < node k (j + 1) + 2 ^ (k + 3)
-  node-near j =
-      rw (node-is j, node-is (j + 1))
-      (laws.near shape (2 ^ (k + 3)) (step k 2) (step-wide k 2) j)
+  pub node_near : (j : ℕ) → node k j < node k (j + 1) + 2 ^ (k + 3)
+  node_near j =
+      rw (node_is j, node_is (j + 1))
+      (laws.near shape (2 ^ (k + 3)) (step k 2) (step_wide k 2) j)
 
   -- the word of node 0 is zero
-  pub stored-word-first : stored_word k 0 ≡ 0
-  stored-word-first = rw node-is (laws.word_first shape)
+  pub stored_word_first : stored_word k 0 ≡ 0
+  stored_word_first = rw node_is (laws.word_first shape)
 
   -- the word of a node between is what the node has above the leading one
-  pub stored-word-between : (j : ℕ) → 0 < j → j < 2 ^ k → stored_word k j ≡ node k j - 2 ^ (2 * k + 2)
-  stored-word-between j h l =
-      rw node-is (laws.word-between shape j h l)
+  pub stored_word_between : (j : ℕ) → 0 < j → j < 2 ^ k → stored_word k j ≡ node k j - 2 ^ (2 * k + 2)
+  stored_word_between j h l =
+      rw node_is (laws.word_between shape j h l)
 
   -- node 2^k needs no word
-  pub decode-last : (word : ℕ) → decode k (2 ^ k) word ≡ node k (2 ^ k)
-  decode-last word = rw (eq-eqb (2 ^ k) (2 ^ k) refl) (sym node-last)
+  pub decode_last : (word : ℕ) → decode k (2 ^ k) word ≡ node k (2 ^ k)
+  decode_last word = rw (eq-eqb (2 ^ k) (2 ^ k) refl) (sym node_last)
 
   -- before node 2^k a word decodes below the leading one
-  pub decode-before : (j word : ℕ) → j < 2 ^ k → decode k j word ≡ decode_under (2 ^ word_width k) j word
-  decode-before j word h = rw (ne_eqb j (2 ^ k) (λ e. omega (arith, e)))
+  pub decode_before : (j word : ℕ) → j < 2 ^ k → decode k j word ≡ decode_under (2 ^ word_width k) j word
+  decode_before j word h = rw (ne_eqb j (2 ^ k) (λ e. omega (arith, e)))
 
   -- a right word decodes to the node
-  pub decode-right : (j word : ℕ) → j < 2 ^ k → word ≡ stored_word k j → decode k j word ≡ node k j
-  decode-right j word h e =
-      decode-before j word h
-      ∙ laws.right-decodes shape j word h (e ∙ ap (λ (c : ℕ). c % 2 ^ (2 * k + 2)) (node-is j))
-      ∙ sym (node-is j)
+  pub decode_right : (j word : ℕ) → j < 2 ^ k → word ≡ stored_word k j → decode k j word ≡ node k j
+  decode_right j word h e =
+      decode_before j word h
+      ∙ laws.right_decodes shape j word h (e ∙ ap (λ (c : ℕ). c % 2 ^ (2 * k + 2)) (node_is j))
+      ∙ sym (node_is j)
 
   -- what a word stands for has at most 2k + 3 bits and one more
-  pub decode-most : (j word : ℕ) → word < 2 ^ word_width k → decode_under (leading_one k) j word ≤ 2 ^ (2 * k + 3)
-  decode-most j word l = rw (← lead-double) (laws.decode-le (2 ^ (2 * k + 2)) j word l)
+  pub decode_most : (j word : ℕ) → word < 2 ^ word_width k → decode_under (leading_one k) j word ≤ 2 ^ (2 * k + 3)
+  decode_most j word l = rw (← lead_double) (laws.decode_le (2 ^ (2 * k + 2)) j word l)
 
   -- all of the numerator counts
-  pub numerator-whole : k ≤ 12 → numerator_bits (numerator k) ≡ numerator k
-  numerator-whole h = let few : 3 * k + 3 < 63 = omega arith in mod-eq_of_lt (pow-lt few)
+  pub numerator_whole : k ≤ 12 → numerator_bits (numerator k) ≡ numerator k
+  numerator_whole h = let few : 3 * k + 3 < 63 = omega arith in mod-eq_of_lt (pow-lt few)
 
   -- the test by a product says whether a word is the node's
-  pub word-judged : (j word : ℕ) → j < 2 ^ k → word < 2 ^ word_width k → rounds_up (numerator k) (2 ^ k + j) (decode_under (leading_one k) j word) ≡ eqb word (stored_word k j)
-  word-judged j word h l = rw (powers.numerator k 2) (laws.judges shape j word h l)
+  pub word_judged : (j word : ℕ) → j < 2 ^ k → word < 2 ^ word_width k → rounds_up (numerator k) (2 ^ k + j) (decode_under (leading_one k) j word) ≡ eqb word (stored_word k j)
+  word_judged j word h l = rw (powers.numerator k 2) (laws.judges shape j word h l)
 
   -- and passes zero bits behind the last word for the last node
-  pub last-judged : rounds_up (numerator k) (2 ^ k + 2 ^ k) (decode_under (leading_one k) (2 ^ k) 0) ≡ true
-  last-judged = rw (powers.numerator k 2) (laws.judges-last shape)
+  pub last_judged : rounds_up (numerator k) (2 ^ k + 2 ^ k) (decode_under (leading_one k) (2 ^ k) 0) ≡ true
+  last_judged = rw (powers.numerator k 2) (laws.judges_last shape)
 
   -- what passes at node j is the node
-  pub passed-is-node : (j c : ℕ) → rounds_up (numerator k) (2 ^ k + j) c ≡ true → c ≡ node k j
-  passed-is-node j c e =
+  pub passed_is_node : (j c : ℕ) → rounds_up (numerator k) (2 ^ k + j) c ≡ true → c ≡ node k j
+  passed_is_node j c e =
       let some : 0 < 2 ^ k + j = omega (arith, pow_pos k) in
       eqb-true c (node k j) (sym (rounds-up (numerator k) (2 ^ k + j) some c) ∙ e)
 
   -- nodes and words stand where k is a precision and j is in the table, and nowhere else
-  pub node-there : in_range k ≡ true → (j : ℕ) → j ≤ 2 ^ k → node_or_0 k j ≡ node k j
-  node-there r j h = rw (r, le-leb j (2 ^ k) h)
+  pub node_there : in_range k ≡ true → (j : ℕ) → j ≤ 2 ^ k → node_or_0 k j ≡ node k j
+  node_there r j h = rw (r, le-leb j (2 ^ k) h)
 
-  pub node-past : (j : ℕ) → 2 ^ k < j → node_or_0 k j ≡ 0
-  node-past j h = rw (lt-leb j (2 ^ k) h, and-false)
+  pub node_past : (j : ℕ) → 2 ^ k < j → node_or_0 k j ≡ 0
+  node_past j h = rw (lt-leb j (2 ^ k) h, and-false)
 
   pub no_node : in_range k ≡ false → (j : ℕ) → node_or_0 k j ≡ 0
   no_node r j = rw r

@@ -15,8 +15,8 @@ one_by_one a b c d e = cc
 
 module _ (k : ℕ) where
   -- those of a precision
-  pub own-numbers : in_range k ≡ true → quotients_or_0 k ≡ quotients_of k
-  own-numbers r = rw r
+  pub own_numbers : in_range k ≡ true → quotients_or_0 k ≡ quotients_of k
+  own_numbers r = rw r
 
   -- their count is that of the words
   count_of : (quotients_or_0 k).count ≡ words_or_0 k
@@ -28,11 +28,11 @@ module _ (k : ℕ) where
 
   module _ {q : Quotients} (e : q ≡ quotients_or_0 k) where
     -- where there are words, they are those of k
-    pub has-numbers : 0 < q.count → (in_range k ≡ true) × (k ≤ 12) × (q ≡ quotients_of k)
-    has-numbers h =
+    pub has_numbers : 0 < q.count → (in_range k ≡ true) × (k ≤ 12) × (q ≡ quotients_of k)
+    has_numbers h =
         let c : Counted k 0 q.count = counted k 0 q.count (ap (λ (t : Quotients). t.count) e ∙ count_of) h in
-        (c.ranged, c.small, e ∙ own-numbers c.ranged)
+        (c.ranged, c.small, e ∙ own_numbers c.ranged)
 
     -- and where there are none, k is no precision
-    pub no-numbers : q.count ≡ 0 → in_range k ≡ false
-    no-numbers z = no_words k (sym count_of ∙ ap (λ (t : Quotients). t.count) (sym e) ∙ z)
+    pub no_numbers : q.count ≡ 0 → in_range k ≡ false
+    no_numbers z = no_words k (sym count_of ∙ ap (λ (t : Quotients). t.count) (sym e) ∙ z)

@@ -31,5 +31,5 @@ step k a =
     ∙ double (2 * k + a)
 
 -- and is above the number of words
-pub step-wide : (k a : ℕ) → 2 ^ k < 2 ^ (k + (a + 1))
-step-wide k a = pow-lt (omega arith)
+pub step_wide : (k a : ℕ) → 2 ^ k < 2 ^ (k + (a + 1))
+step_wide k a = pow-lt (omega arith)

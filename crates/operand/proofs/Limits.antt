@@ -5,11 +5,11 @@ use mathlib.Core.List.{List, [], ◌∷◌}
 use Prim.Native.Nat.{ℕ, ◌+◌, ◌^◌, ◌≤◌, ◌<◌}
 use borrow.Author.Tests.{not-false}
 use Rattle.answers.specs.Refusal.{Refusal, outcome}
-use Rattle.answers.proofs.Earlier.{limited, earlier-refuses, earlier-passes, earlier-none}
+use Rattle.answers.proofs.Earlier.{limited, earlier_refuses, earlier_passes, earlier_none}
 use Rattle.operand.specs.Operand.{is_fraction_count, is_normalised}
 use Rattle.operand.specs.Refusals.{fraction_refusal, operand_refusal}
 use Rattle.operand.specs.Inner.{operand_number}
-use Rattle.operand.proofs.Laws.{count-in, in_count, normalised-in, in-normalised}
+use Rattle.operand.proofs.Laws.{count-in, in_count, normalised_in, in_normalised}
 
 -- both limits are kept: n is from 1 to 63, and X is normalised
 pub record OperandKept (n X : ℕ) : Type 0 where
@@ -20,20 +20,20 @@ pub record OperandKept (n X : ℕ) : Type 0 where
 
 module _ (n X : ℕ) where
   -- a broken limit turns the call back
-  pub operand-refuses : (rs : List Refusal) (v : ℕ) → (operand_number n X ≡ 0 → ⊥) → outcome (fraction_refusal n ∷ operand_refusal n X ∷ rs) v ≡ limited (operand_number n X)
-  operand-refuses rs v = earlier-refuses rs v (fraction_refusal n ∷ operand_refusal n X ∷ []) tt
+  pub operand_refuses : (rs : List Refusal) (v : ℕ) → (operand_number n X ≡ 0 → ⊥) → outcome (fraction_refusal n ∷ operand_refusal n X ∷ rs) v ≡ limited (operand_number n X)
+  operand_refuses rs v = earlier_refuses rs v (fraction_refusal n ∷ operand_refusal n X ∷ []) tt
 
   -- where both are kept the later refusals decide
-  pub operand-passes : (rs : List Refusal) (v : ℕ) → operand_number n X ≡ 0 → outcome (fraction_refusal n ∷ operand_refusal n X ∷ rs) v ≡ outcome rs v
-  operand-passes rs v = earlier-passes rs v (fraction_refusal n ∷ operand_refusal n X ∷ []) tt
+  pub operand_passes : (rs : List Refusal) (v : ℕ) → operand_number n X ≡ 0 → outcome (fraction_refusal n ∷ operand_refusal n X ∷ rs) v ≡ outcome rs v
+  operand_passes rs v = earlier_passes rs v (fraction_refusal n ∷ operand_refusal n X ∷ []) tt
 
-  pub operand-kept : operand_number n X ≡ 0 → OperandKept n X
-  operand-kept e =
-      let first = earlier-none (fraction_refusal n) (operand_refusal n X ∷ []) tt e in
+  pub operand_kept : operand_number n X ≡ 0 → OperandKept n X
+  operand_kept e =
+      let first = earlier_none (fraction_refusal n) (operand_refusal n X ∷ []) tt e in
       let count = count-in n (not-false (is_fraction_count n) first.0) in
-      let range = normalised-in n X (not-false (is_normalised n X) (earlier-none (operand_refusal n X) [] tt first.1).0) in
+      let range = normalised_in n X (not-false (is_normalised n X) (earlier_none (operand_refusal n X) [] tt first.1).0) in
       record { low = count.0; high = count.1; least = range.0; below = range.1 }
 
   -- and an operand in its ranges keeps both
-  pub operand-none : OperandKept n X → operand_number n X ≡ 0
-  operand-none o = rw (in_count n o.low o.high, in-normalised n X o.least o.below)
+  pub operand_none : OperandKept n X → operand_number n X ≡ 0
+  operand_none o = rw (in_count n o.low o.high, in_normalised n X o.least o.below)

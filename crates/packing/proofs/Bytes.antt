@@ -6,7 +6,7 @@ use lib.Seq.{get_or_at}
 use lib.Arith.{digits_lt}
 use lib.Pow.{high, low, mod-pow-add}
 use Rattle.packing.specs.Packing.{to_bytes, bytes_value, Bytes}
-use Rattle.packing.proofs.Numbers.{packed_lt, packed-add, packed-ext}
+use Rattle.packing.proofs.Numbers.{packed_lt, packed_add, packed_ext}
 
 -- as many bytes as asked for
 pub length-to_bytes : (n v : ℕ) → length (to_bytes n v) ≡ n
@@ -14,10 +14,10 @@ length-to_bytes zero v = refl
 length-to_bytes (suc n) v = length-append (to_bytes n (v / 256)) (v % 256 ∷ []) ∙ ap (λ (x : ℕ). x + 1) (length-to_bytes n (v / 256)) ∙ add-one n
 
 -- bytes, then bytes
-pub bytes-append : (s t : List ℕ) → Bytes s → Bytes t → Bytes (s ++ t)
-bytes-append [] t hs ht i = ht i
-bytes-append (x ∷ s) t hs ht zero = hs 0
-bytes-append (x ∷ s) t hs ht (suc i) = bytes-append s t (λ j. hs (suc j)) ht i
+pub bytes_append : (s t : List ℕ) → Bytes s → Bytes t → Bytes (s ++ t)
+bytes_append [] t hs ht i = ht i
+bytes_append (x ∷ s) t hs ht zero = hs 0
+bytes_append (x ∷ s) t hs ht (suc i) = bytes_append s t (λ j. hs (suc j)) ht i
 
 -- the first n of them
 pub bytes_take : (n : ℕ) (s : List ℕ) → Bytes s → Bytes (take n s)
@@ -34,11 +34,11 @@ bytes_one b h (suc i) = omega arith
 -- what to_bytes gives are bytes
 pub bytes-to_bytes : (n v : ℕ) → Bytes (to_bytes n v)
 bytes-to_bytes zero v i = omega arith
-bytes-to_bytes (suc n) v i = bytes-append (to_bytes n (v / 256)) (v % 256 ∷ []) (bytes-to_bytes n (v / 256)) (bytes_one (v % 256) (omega arith)) i
+bytes-to_bytes (suc n) v i = bytes_append (to_bytes n (v / 256)) (v % 256 ∷ []) (bytes-to_bytes n (v / 256)) (bytes_one (v % 256) (omega arith)) i
 
 -- L bytes make a number of 8 × L bits
-pub value-lt : (s : List ℕ) (a n : ℕ) → ((i : ℕ) → i < n → get_or s (a + i) 0 < 256) → bytes_value s a n < 2 ^ (8 * n)
-value-lt s a n h = rw (mul_comm 8 n) (packed_lt 8 (λ (i : ℕ). get_or s (a + i) 0) n h)
+pub value_lt : (s : List ℕ) (a n : ℕ) → ((i : ℕ) → i < n → get_or s (a + i) 0 < 256) → bytes_value s a n < 2 ^ (8 * n)
+value_lt s a n h = rw (mul_comm 8 n) (packed_lt 8 (λ (i : ℕ). get_or s (a + i) 0) n h)
 
 -- the bytes of a number make its lowest 8 × n bits, whatever follows them
 pub value-to_bytes : (n v : ℕ) (t : List ℕ) → bytes_value (to_bytes n v ++ t) 0 n ≡ v % 2 ^ (8 * n)
@@ -52,24 +52,24 @@ value-to_bytes (suc n) v t =
     last = ap (λ (i : ℕ). get_or (to_bytes n (v / 256) ++ (v % 256 ∷ t)) i 0) (zero-add n) ∙ get_or_at (to_bytes n (v / 256)) (v % 256) t 0 n (length-to_bytes n (v / 256))
 
 -- a number of 8 × n bits comes back whole
-pub value-to_bytes-exact : (n v : ℕ) (t : List ℕ) → v < 2 ^ (8 * n) → bytes_value (to_bytes n v ++ t) 0 n ≡ v
-value-to_bytes-exact n v t h = value-to_bytes n v t ∙ mod-eq_of_lt h
+pub value_to_bytes_exact : (n v : ℕ) (t : List ℕ) → v < 2 ^ (8 * n) → bytes_value (to_bytes n v ++ t) 0 n ≡ v
+value_to_bytes_exact n v t h = value-to_bytes n v t ∙ mod-eq_of_lt h
 
 -- the bytes of the value of n bytes are those bytes
-pub to_bytes-value : (n : ℕ) (s : List ℕ) → Bytes s → n ≤ length s → to_bytes n (bytes_value s 0 n) ≡ take n s
-to_bytes-value zero s hs h = refl
-to_bytes-value (suc n) s hs h =
+pub to_bytes_value : (n : ℕ) (s : List ℕ) → Bytes s → n ≤ length s → to_bytes n (bytes_value s 0 n) ≡ take n s
+to_bytes_value zero s hs h = refl
+to_bytes_value (suc n) s hs h =
     ap₂ (λ (x y : ℕ). to_bytes n x ++ (y ∷ [])) (high (bytes_value s 0 n) 8 (hs (0 + n))) (low (bytes_value s 0 n) 8 (hs (0 + n)))
-    ∙ ap₂ (λ (x : List ℕ) (y : ℕ). x ++ (y ∷ [])) (to_bytes-value n s hs (le_trans (le-suc n) h)) (ap (λ (i : ℕ). get_or s i 0) (zero-add n))
+    ∙ ap₂ (λ (x : List ℕ) (y : ℕ). x ++ (y ∷ [])) (to_bytes_value n s hs (le_trans (le-suc n) h)) (ap (λ (i : ℕ). get_or s i 0) (zero-add n))
     ∙ sym (take-suc s n 0 h)
 
 -- bytes, then bytes: the high part of a number and its low part
-pub to_bytes-add : (a b v : ℕ) → to_bytes (a + b) v ≡ to_bytes a (v / 2 ^ (8 * b)) ++ to_bytes b v
-to_bytes-add a zero v =
+pub to_bytes_add : (a b v : ℕ) → to_bytes (a + b) v ≡ to_bytes a (v / 2 ^ (8 * b)) ++ to_bytes b v
+to_bytes_add a zero v =
     ap (λ (n : ℕ). to_bytes n v) (add-zero a) ∙ ap (to_bytes a) (sym (div-one v)) ∙ sym (append-nil (to_bytes a (v / 1)))
-to_bytes-add a (suc b) v =
+to_bytes_add a (suc b) v =
     ap (λ (n : ℕ). to_bytes n v) (add-suc a b)
-    ∙ ap (λ (l : List ℕ). l ++ (v % 256 ∷ [])) (to_bytes-add a b (v / 256))
+    ∙ ap (λ (l : List ℕ). l ++ (v % 256 ∷ [])) (to_bytes_add a b (v / 256))
     ∙ append_assoc (to_bytes a (v / 256 / 2 ^ (8 * b))) (to_bytes b (v / 256)) (v % 256 ∷ [])
     ∙ ap (λ (x : ℕ). to_bytes a x ++ (to_bytes b (v / 256) ++ (v % 256 ∷ []))) (shr-shr v 8 (8 * b) ∙ ap (λ (e : ℕ). v / 2 ^ e) more)
   where
@@ -77,28 +77,28 @@ to_bytes-add a (suc b) v =
     more = omega arith
 
 -- only the lowest bits of a number show in its bytes
-pub to_bytes-low : (n v : ℕ) → to_bytes n (v % 2 ^ (8 * n)) ≡ to_bytes n v
-to_bytes-low n v =
+pub to_bytes_low : (n v : ℕ) → to_bytes n (v % 2 ^ (8 * n)) ≡ to_bytes n v
+to_bytes_low n v =
     ap (to_bytes n) (sym (value-to_bytes n v []))
-    ∙ to_bytes-value n (to_bytes n v ++ []) (bytes-append (to_bytes n v) [] (bytes-to_bytes n v) (λ i. omega arith)) (omega (arith, long))
+    ∙ to_bytes_value n (to_bytes n v ++ []) (bytes_append (to_bytes n v) [] (bytes-to_bytes n v) (λ i. omega arith)) (omega (arith, long))
     ∙ take_at (to_bytes n v) [] n (length-to_bytes n v)
   where
     long : length (to_bytes n v ++ []) ≡ n
     long = ap length (append-nil (to_bytes n v)) ∙ length-to_bytes n v
 
-pub to_bytes-same : (n x y : ℕ) → x % 2 ^ (8 * n) ≡ y % 2 ^ (8 * n) → to_bytes n x ≡ to_bytes n y
-to_bytes-same n x y e = sym (to_bytes-low n x) ∙ ap (to_bytes n) e ∙ to_bytes-low n y
+pub to_bytes_same : (n x y : ℕ) → x % 2 ^ (8 * n) ≡ y % 2 ^ (8 * n) → to_bytes n x ≡ to_bytes n y
+to_bytes_same n x y e = sym (to_bytes_low n x) ∙ ap (to_bytes n) e ∙ to_bytes_low n y
 
 -- bytes, then bytes: the number of both is that of the first, moved up, and that of the second
-pub value-add : (s : List ℕ) (a m n : ℕ) → bytes_value s a (m + n) ≡ bytes_value s a m * 2 ^ (n * 8) + bytes_value s (a + m) n
-value-add s a m n =
-    packed-add 8 (λ (i : ℕ). get_or s (a + i) 0) m n
+pub value_add : (s : List ℕ) (a m n : ℕ) → bytes_value s a (m + n) ≡ bytes_value s a m * 2 ^ (n * 8) + bytes_value s (a + m) n
+value_add s a m n =
+    packed_add 8 (λ (i : ℕ). get_or s (a + i) 0) m n
     ∙ ap (λ (x : ℕ). bytes_value s a m * 2 ^ (n * 8) + x)
-    (packed-ext 8 (λ (i : ℕ). get_or s (a + (m + i)) 0) (λ (i : ℕ). get_or s (a + m + i) 0) n (λ i l. ap (λ (x : ℕ). get_or s x 0) (omega arith)))
+    (packed_ext 8 (λ (i : ℕ). get_or s (a + (m + i)) 0) (λ (i : ℕ). get_or s (a + m + i) 0) n (λ i l. ap (λ (x : ℕ). get_or s x 0) (omega arith)))
 
 -- the next byte goes to the end of the number
-pub value-step : (s : List ℕ) (a e : ℕ) → a ≤ e → bytes_value s a (e + 1 - a) ≡ bytes_value s a (e - a) * 256 + get_or s e 0
-value-step s a e h =
+pub value_step : (s : List ℕ) (a e : ℕ) → a ≤ e → bytes_value s a (e + 1 - a) ≡ bytes_value s a (e - a) * 256 + get_or s e 0
+value_step s a e h =
     ap (bytes_value s a) more ∙ ap (λ (x : ℕ). bytes_value s a (e - a) * 256 + get_or s x 0) there
   where
     more : e + 1 - a ≡ suc (e - a)
@@ -108,8 +108,8 @@ value-step s a e h =
     there = omega arith
 
 -- and gives it 8 bits more
-pub value-step-lt : (v b a e : ℕ) → a ≤ e → v < 2 ^ (8 * (e - a)) → b < 256 → v * 256 + b < 2 ^ (8 * (e + 1 - a))
-value-step-lt v b a e h hv hb =
+pub value_step_lt : (v b a e : ℕ) → a ≤ e → v < 2 ^ (8 * (e - a)) → b < 256 → v * 256 + b < 2 ^ (8 * (e + 1 - a))
+value_step_lt v b a e h hv hb =
     subst (λ (x : ℕ). v * 256 + b < x) (sym (pow-add 2 (8 * (e - a)) 8) ∙ ap (λ (x : ℕ). 2 ^ x) more) (digits_lt hv hb)
   where
     more : 8 * (e - a) + 8 ≡ 8 * (e + 1 - a)
@@ -132,9 +132,9 @@ spread : (a b c d e f g h : ℕ)
     ≡ (((((((0 + a) * 256 + b) * 256 + c) * 256 + d) * 256 + e) * 256 + f) * 256 + g) * 256 + h
 spread a b c d e f g h = omega arith
 
-pub value-eight : (s : List ℕ) (at a b c d e f g h : ℕ)
+pub value_eight : (s : List ℕ) (at a b c d e f g h : ℕ)
     → a ≡ get_or s at 0 → b ≡ get_or s (at + 1) 0 → c ≡ get_or s (at + 2) 0 → d ≡ get_or s (at + 3) 0
     → e ≡ get_or s (at + 4) 0 → f ≡ get_or s (at + 5) 0 → g ≡ get_or s (at + 6) 0 → h ≡ get_or s (at + 7) 0
     → a * 72057594037927936 + b * 281474976710656 + (c * 1099511627776 + d * 4294967296) + (e * 16777216 + f * 65536 + (g * 256 + h)) ≡ bytes_value s at 8
-value-eight s at a b c d e f g h pa pb pc pd pe pf pg ph =
+value_eight s at a b c d e f g h pa pb pc pd pe pf pg ph =
     spread a b c d e f g h ∙ rw (pa, pb, pc, pd, pe, pf, pg, ph, add-zero)

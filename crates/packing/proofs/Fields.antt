@@ -6,8 +6,8 @@ use lib.ListN.{get_or-eq_default}
 use lib.Pow.{high, low, field, mod-pow-add}
 use Rattle.packing.specs.Packing.{bytes_value, Bytes, last_of, field_at}
 use Rattle.packing.specs.Inner.{window_at}
-use Rattle.packing.proofs.Bytes.{value-add}
-use Rattle.packing.proofs.Numbers.{packed-ext, packed_zero, packed-add, packed-front}
+use Rattle.packing.proofs.Bytes.{value_add}
+use Rattle.packing.proofs.Numbers.{packed_ext, packed_zero, packed_add, packed_front}
 
 -- bits from x + w on above do not reach the w bits from k on
 cut : (p q x w k : ℕ) → (p * 2 ^ (x + w + k) + q) / 2 ^ k % 2 ^ w ≡ q / 2 ^ k % 2 ^ w
@@ -31,10 +31,10 @@ covered w s a m r x k h e =
     ap (λ (y : ℕ). y % 2 ^ w) (sym (shr-shr (bytes_value s 0 (a + m + r)) (8 * r) k))
     ∙ ap (λ (y : ℕ). y / 2 ^ k % 2 ^ w)
     (ap (λ (y : ℕ). bytes_value s 0 (a + m + r) / 2 ^ y) (mul_comm 8 r)
-    ∙ packed-front 8 (λ (i : ℕ). get_or s (0 + i) 0) (a + m) r (λ i l. rw zero-add (h i l))
-    ∙ packed-add 8 (λ (i : ℕ). get_or s (0 + i) 0) a m
+    ∙ packed_front 8 (λ (i : ℕ). get_or s (0 + i) 0) (a + m) r (λ i l. rw zero-add (h i l))
+    ∙ packed_add 8 (λ (i : ℕ). get_or s (0 + i) 0) a m
     ∙ ap₂ (λ (y z : ℕ). bytes_value s 0 a * 2 ^ y + z) (mul_comm m 8 ∙ e)
-    (packed-ext 8 (λ (i : ℕ). get_or s (0 + (a + i)) 0) (λ (i : ℕ). get_or s (a + i) 0) m (λ i l. rw zero-add)))
+    (packed_ext 8 (λ (i : ℕ). get_or s (0 + (a + i)) 0) (λ (i : ℕ). get_or s (a + i) 0) m (λ i l. rw zero-add)))
     ∙ cut (bytes_value s 0 a) (bytes_value s a m) x w k
 
 -- the places of the bytes that hold w bits from bit b on: before them, they, and the rest of L bytes
@@ -49,10 +49,10 @@ module _ (b w L : ℕ) (one : 1 ≤ w) (within : b + w ≤ 8 * L) where
   behind = omega arith
 
   -- the key law: bits of a byte list are a digit of the number that its first L bytes make
-  pub field-is-digit-below : (s : List ℕ) → ((i : ℕ) → i < L → get_or s i 0 < 256)
+  pub field_is_digit_below : (s : List ℕ) → ((i : ℕ) → i < L → get_or s i 0 < 256)
       → field_at s b w ≡ bytes_value s 0 L / 2 ^ (8 * L - (b + w)) % 2 ^ w
   unfolding field_at
-  field-is-digit-below s h =
+  field_is_digit_below s h =
       sym (covered w s (b / 8) (last_of b w + 1 - b / 8) (L - (last_of b w + 1)) (b - 8 * (b / 8)) (8 * (last_of b w + 1) - (b + w)) (λ i l. h i (subst (λ (x : ℕ). i < x) before l)) inside)
       ∙ ap₂ (λ (x y : ℕ). bytes_value s 0 x / 2 ^ y % 2 ^ w) before behind
 
@@ -62,12 +62,12 @@ unfolding field_at
 field_lt s b w = mod-lt (bytes_value s (b / 8) (last_of b w + 1 - b / 8) / 2 ^ (8 * (last_of b w + 1) - (b + w))) (pow_pos w)
 
 -- bits depend on the bytes that hold them alone
-pub field-local : (s t : List ℕ) (b w : ℕ) → 1 ≤ w
+pub field_local : (s t : List ℕ) (b w : ℕ) → 1 ≤ w
     → ((i : ℕ) → b / 8 ≤ i → i ≤ last_of b w → get_or s i 0 ≡ get_or t i 0) → field_at s b w ≡ field_at t b w
 unfolding field_at
-field-local s t b w one h =
+field_local s t b w one h =
     ap (λ (x : ℕ). x / 2 ^ (8 * (last_of b w + 1) - (b + w)) % 2 ^ w)
-    (packed-ext 8 (λ (i : ℕ). get_or s (b / 8 + i) 0) (λ (i : ℕ). get_or t (b / 8 + i) 0) (last_of b w + 1 - b / 8)
+    (packed_ext 8 (λ (i : ℕ). get_or s (b / 8 + i) 0) (λ (i : ℕ). get_or t (b / 8 + i) 0) (last_of b w + 1 - b / 8)
     (λ i l. h (b / 8 + i) (omega arith) (omega arith)))
 
 -- past the end of the bytes all bits are 0
@@ -75,20 +75,20 @@ pub field_past : (s : List ℕ) (b w : ℕ) → 8 * length s ≤ b → field_at 
 unfolding field_at
 field_past s b w h =
     ap (λ (x : ℕ). x / 2 ^ (8 * (last_of b w + 1) - (b + w)) % 2 ^ w)
-    (packed-ext 8 (λ (i : ℕ). get_or s (b / 8 + i) 0) (λ (i : ℕ). 0) (last_of b w + 1 - b / 8) (λ i l. get_or-eq_default s 0 (omega arith))
+    (packed_ext 8 (λ (i : ℕ). get_or s (b / 8 + i) 0) (λ (i : ℕ). 0) (last_of b w + 1 - b / 8) (λ i l. get_or-eq_default s 0 (omega arith))
     ∙ packed_zero 8 (last_of b w + 1 - b / 8))
     ∙ ap (λ (x : ℕ). x % 2 ^ w) (zero-div (2 ^ (8 * (last_of b w + 1) - (b + w))))
     ∙ mod-eq_of_lt (pow_pos w)
 
 -- bits, then bits
-pub field-split : (s : List ℕ) (b u v : ℕ) → Bytes s → 1 ≤ u → 1 ≤ v → field_at s b (u + v) ≡ field_at s b u * 2 ^ v + field_at s (b + u) v
-field-split s b u v h one one' =
-    field-is-digit-below b (u + v) L (omega arith) (omega arith) s (λ i l. h i)
+pub field_split : (s : List ℕ) (b u v : ℕ) → Bytes s → 1 ≤ u → 1 ≤ v → field_at s b (u + v) ≡ field_at s b u * 2 ^ v + field_at s (b + u) v
+field_split s b u v h one one' =
+    field_is_digit_below b (u + v) L (omega arith) (omega arith) s (λ i l. h i)
     ∙ mod-pow-add (bytes_value s 0 L / 2 ^ (8 * L - (b + (u + v)))) u v
     ∙ ap₂ (λ (x y : ℕ). x * 2 ^ v + y)
     (ap (λ (x : ℕ). x % 2 ^ u) (shr-shr (bytes_value s 0 L) (8 * L - (b + (u + v))) v ∙ ap (λ (x : ℕ). bytes_value s 0 L / 2 ^ x) front)
-    ∙ sym (field-is-digit-below b u L one (omega arith) s (λ i l. h i)))
-    (ap (λ (x : ℕ). bytes_value s 0 L / 2 ^ x % 2 ^ v) back ∙ sym (field-is-digit-below (b + u) v L one' (omega arith) s (λ i l. h i)))
+    ∙ sym (field_is_digit_below b u L one (omega arith) s (λ i l. h i)))
+    (ap (λ (x : ℕ). bytes_value s 0 L / 2 ^ x % 2 ^ v) back ∙ sym (field_is_digit_below (b + u) v L one' (omega arith) s (λ i l. h i)))
   where
     -- bytes enough to hold them all
     L : ℕ
@@ -112,11 +112,11 @@ module _ (s : List ℕ) (b w : ℕ) (hs : Bytes s) (one : 1 ≤ w) (wide : w ≤
   cut_down : (8 - span) * 8 + (8 * (last_of b w + 1) - (b + w)) ≡ 64 - (b % 8 + w)
   cut_down = omega arith
 
-  by-eight : field_at s b w ≡ bytes_value s (b / 8) 8 / 2 ^ (64 - (b % 8 + w)) % 2 ^ w
+  by_eight : field_at s b w ≡ bytes_value s (b / 8) 8 / 2 ^ (64 - (b % 8 + w)) % 2 ^ w
   unfolding field_at
-  by-eight =
+  by_eight =
       ap (λ (x : ℕ). x / 2 ^ (8 * (last_of b w + 1) - (b + w)) % 2 ^ w)
-      (sym (packed-front 8 (λ (i : ℕ). get_or s (b / 8 + i) 0) span (8 - span) (λ i l. hs (b / 8 + i)))
+      (sym (packed_front 8 (λ (i : ℕ). get_or s (b / 8 + i) 0) span (8 - span) (λ i l. hs (b / 8 + i)))
       ∙ ap (λ (n : ℕ). bytes_value s (b / 8) n / 2 ^ ((8 - span) * 8)) eight)
       ∙ ap (λ (x : ℕ). x % 2 ^ w)
       (shr-shr (bytes_value s (b / 8) 8) ((8 - span) * 8) (8 * (last_of b w + 1) - (b + w)) ∙ ap (λ (x : ℕ). bytes_value s (b / 8) 8 / 2 ^ x) cut_down)
@@ -137,12 +137,12 @@ module _ (s : List ℕ) (b w : ℕ) (hs : Bytes s) (one : 1 ≤ w) (wide : w ≤
       apart = omega arith
 
   moved : window_at s b / 2 ^ (64 - w) ≡ field_at s b w
-  moved = down (bytes_value s (b / 8) 8) (b % 8) (omega arith) ∙ sym by-eight
+  moved = down (bytes_value s (b / 8) 8) (b % 8) (omega arith) ∙ sym by_eight
 
-pub window-field : (s : List ℕ) (b w : ℕ) → Bytes s → w ≤ 57 → window_at s b / 2 ^ (64 - w) ≡ field_at s b w
+pub window_field : (s : List ℕ) (b w : ℕ) → Bytes s → w ≤ 57 → window_at s b / 2 ^ (64 - w) ≡ field_at s b w
 unfolding field_at
-window-field s b (suc w) hs wide = moved s b (suc w) hs (omega arith) wide
-window-field s b zero hs wide =
+window_field s b (suc w) hs wide = moved s b (suc w) hs (omega arith) wide
+window_field s b zero hs wide =
     div-eq_of_lt (mod-lt (bytes_value s (b / 8) 8 * 2 ^ (b % 8)) (pow_pos 64))
     ∙ sym (mod-one (bytes_value s (b / 8) (last_of b 0 + 1 - b / 8) / 2 ^ (8 * (last_of b 0 + 1) - (b + 0))))
 
@@ -156,42 +156,42 @@ module _ (s : List ℕ) (b : ℕ) (below : b / 8 < length s) (near : length s < 
 
   none : bytes_value s (b / 8 + there) (8 - there) ≡ 0
   none =
-      packed-ext 8 (λ (i : ℕ). get_or s (b / 8 + there + i) 0) (λ (i : ℕ). 0) (8 - there) (λ i l. get_or-eq_default s 0 (omega arith))
+      packed_ext 8 (λ (i : ℕ). get_or s (b / 8 + there + i) 0) (λ (i : ℕ). 0) (8 - there) (λ i l. get_or-eq_default s 0 (omega arith))
       ∙ packed_zero 8 (8 - there)
 
-  all-eight : 8 ≡ there + (8 - there)
-  all-eight = omega arith
+  all_eight : 8 ≡ there + (8 - there)
+  all_eight = omega arith
 
   padded : bytes_value s (b / 8) 8 ≡ value * 2 ^ (8 * (8 - there))
   padded =
-      ap (bytes_value s (b / 8)) all-eight
-      ∙ value-add s (b / 8) there (8 - there)
+      ap (bytes_value s (b / 8)) all_eight
+      ∙ value_add s (b / 8) there (8 - there)
       ∙ ap₂ (λ (x y : ℕ). value * 2 ^ x + y) (mul_comm (8 - there) 8) none
       ∙ add-zero (value * 2 ^ (8 * (8 - there)))
 
-  pub window-near : (value * 2 ^ (8 * (8 - there) + b % 8)) % 2 ^ 64 ≡ window_at s b
-  window-near =
+  pub window_near : (value * 2 ^ (8 * (8 - there) + b % 8)) % 2 ^ 64 ≡ window_at s b
+  window_near =
       ap (λ (x : ℕ). x % 2 ^ 64)
       (ap (λ (x : ℕ). value * x) (pow-add 2 (8 * (8 - there)) (b % 8))
       ∙ sym (mul_assoc value (2 ^ (8 * (8 - there))) (2 ^ (b % 8)))
       ∙ ap (λ (x : ℕ). x * 2 ^ (b % 8)) (sym padded))
 
 -- and past it
-pub window-past : (s : List ℕ) (b : ℕ) → length s ≤ b / 8 → window_at s b ≡ 0
-window-past s b h =
+pub window_past : (s : List ℕ) (b : ℕ) → length s ≤ b / 8 → window_at s b ≡ 0
+window_past s b h =
     ap (λ (x : ℕ). (x * 2 ^ (b % 8)) % 2 ^ 64)
-    (packed-ext 8 (λ (i : ℕ). get_or s (b / 8 + i) 0) (λ (i : ℕ). 0) 8 (λ i l. get_or-eq_default s 0 (omega arith)) ∙ packed_zero 8 8)
+    (packed_ext 8 (λ (i : ℕ). get_or s (b / 8 + i) 0) (λ (i : ℕ). 0) 8 (λ i l. get_or-eq_default s 0 (omega arith)) ∙ packed_zero 8 8)
     ∙ ap (λ (x : ℕ). x % 2 ^ 64) (zero-mul (2 ^ (b % 8)))
 
 -- of two numbers side by side, each
-pub pair-high : (s : List ℕ) (b w : ℕ) → Bytes s → 1 ≤ w → field_at s b (2 * w) / 2 ^ w ≡ field_at s b w
-pair-high s b w h one = ap (λ (x : ℕ). x / 2 ^ w) (doubled ∙ field-split s b w w h one one) ∙ high (field_at s b w) w (field_lt s (b + w) w)
+pub pair_high : (s : List ℕ) (b w : ℕ) → Bytes s → 1 ≤ w → field_at s b (2 * w) / 2 ^ w ≡ field_at s b w
+pair_high s b w h one = ap (λ (x : ℕ). x / 2 ^ w) (doubled ∙ field_split s b w w h one one) ∙ high (field_at s b w) w (field_lt s (b + w) w)
   where
     doubled : field_at s b (2 * w) ≡ field_at s b (w + w)
     doubled = ap (field_at s b) (omega arith)
 
-pub pair-low : (s : List ℕ) (b w : ℕ) → Bytes s → 1 ≤ w → field_at s b (2 * w) % 2 ^ w ≡ field_at s (b + w) w
-pair-low s b w h one = ap (λ (x : ℕ). x % 2 ^ w) (doubled ∙ field-split s b w w h one one) ∙ low (field_at s b w) w (field_lt s (b + w) w)
+pub pair_low : (s : List ℕ) (b w : ℕ) → Bytes s → 1 ≤ w → field_at s b (2 * w) % 2 ^ w ≡ field_at s (b + w) w
+pair_low s b w h one = ap (λ (x : ℕ). x % 2 ^ w) (doubled ∙ field_split s b w w h one one) ∙ low (field_at s b w) w (field_lt s (b + w) w)
   where
     doubled : field_at s b (2 * w) ≡ field_at s b (w + w)
     doubled = ap (field_at s b) (omega arith)

@@ -16,10 +16,10 @@ packed_lt w f zero h = pow_pos (0 * w)
 packed_lt w f (suc n) h = rw pow_more (digits_lt (packed_lt w f n (λ j l. h j (le_step l))) (h n (le_refl (suc n))))
 
 -- words that agree make the same number
-pub packed-ext : (w : ℕ) (f g : ℕ → ℕ) (n : ℕ) → ((j : ℕ) → j < n → f j ≡ g j) → packed w f n ≡ packed w g n
-packed-ext w f g zero h = refl
-packed-ext w f g (suc n) h =
-    ap₂ (λ (x y : ℕ). x * 2 ^ w + y) (packed-ext w f g n (λ j l. h j (le_step l))) (h n (le_refl (suc n)))
+pub packed_ext : (w : ℕ) (f g : ℕ → ℕ) (n : ℕ) → ((j : ℕ) → j < n → f j ≡ g j) → packed w f n ≡ packed w g n
+packed_ext w f g zero h = refl
+packed_ext w f g (suc n) h =
+    ap₂ (λ (x y : ℕ). x * 2 ^ w + y) (packed_ext w f g n (λ j l. h j (le_step l))) (h n (le_refl (suc n)))
 
 -- words that are 0 make 0
 pub packed_zero : (w n : ℕ) → packed w (λ (j : ℕ). 0) n ≡ 0
@@ -27,14 +27,14 @@ packed_zero w zero = refl
 packed_zero w (suc n) = ap (λ (x : ℕ). x * 2 ^ w + 0) (packed_zero w n) ∙ omega arith
 
 -- the first a words stand before the m others
-pub packed-add : (w : ℕ) (f : ℕ → ℕ) (a m : ℕ)
+pub packed_add : (w : ℕ) (f : ℕ → ℕ) (a m : ℕ)
     → packed w f (a + m) ≡ packed w f a * 2 ^ (m * w) + packed w (λ (i : ℕ). f (a + i)) m
-packed-add w f a zero =
+packed_add w f a zero =
     ap (packed w f) (add-zero a)
     ∙ sym (add-zero (packed w f a)) ∙ ap (λ (x : ℕ). x + 0) (sym (mul-one (packed w f a)) ∙ ap (λ (x : ℕ). packed w f a * 2 ^ x) (sym (zero-mul w)))
-packed-add w f a (suc m) =
+packed_add w f a (suc m) =
     ap (packed w f) (add-suc a m)
-    ∙ ap (λ (x : ℕ). x * 2 ^ w + f (a + m)) (packed-add w f a m)
+    ∙ ap (λ (x : ℕ). x * 2 ^ w + f (a + m)) (packed_add w f a m)
     ∙ step (packed w f a) (2 ^ (m * w)) (packed w (λ (i : ℕ). f (a + i)) m) (2 ^ w) (f (a + m))
     ∙ ap (λ (x : ℕ). packed w f a * x + (packed w (λ (i : ℕ). f (a + i)) m * 2 ^ w + f (a + m))) (sym (pow_more w m))
   where
@@ -42,33 +42,33 @@ packed-add w f a (suc m) =
     step p q r s t = omega arith
 
 -- the last m words cut off
-pub packed-front : (w : ℕ) (f : ℕ → ℕ) (a m : ℕ) → ((j : ℕ) → j < a + m → f j < 2 ^ w) → packed w f (a + m) / 2 ^ (m * w) ≡ packed w f a
-packed-front w f a m h =
-    ap (λ (x : ℕ). x / 2 ^ (m * w)) (packed-add w f a m)
+pub packed_front : (w : ℕ) (f : ℕ → ℕ) (a m : ℕ) → ((j : ℕ) → j < a + m → f j < 2 ^ w) → packed w f (a + m) / 2 ^ (m * w) ≡ packed w f a
+packed_front w f a m h =
+    ap (λ (x : ℕ). x / 2 ^ (m * w)) (packed_add w f a m)
     ∙ high (packed w f a) (m * w) (packed_lt w (λ (i : ℕ). f (a + i)) m (λ j l. h (a + j) (omega arith)))
 
 -- the last word
-pub packed-last : (w : ℕ) (f : ℕ → ℕ) (n : ℕ) → f n < 2 ^ w → packed w f (suc n) % 2 ^ w ≡ f n
-packed-last w f n h = low (packed w f n) w h
+pub packed_last : (w : ℕ) (f : ℕ → ℕ) (n : ℕ) → f n < 2 ^ w → packed w f (suc n) % 2 ^ w ≡ f n
+packed_last w f n h = low (packed w f n) w h
 
 -- word j is digit j of the number, counted from the front
-pub packed-digit : (w : ℕ) (f : ℕ → ℕ) (n j : ℕ) → ((i : ℕ) → i < n → f i < 2 ^ w) → j < n
+pub packed_digit : (w : ℕ) (f : ℕ → ℕ) (n j : ℕ) → ((i : ℕ) → i < n → f i < 2 ^ w) → j < n
     → packed w f n / 2 ^ ((n - 1 - j) * w) % 2 ^ w ≡ f j
-packed-digit w f n j h l =
+packed_digit w f n j h l =
     ap (λ (x : ℕ). packed w f x / 2 ^ ((n - 1 - j) * w) % 2 ^ w) e
-    ∙ ap (λ (x : ℕ). x % 2 ^ w) (packed-front w f (suc j) (n - 1 - j) (λ i k. h i (omega arith)))
-    ∙ packed-last w f j (h j l)
+    ∙ ap (λ (x : ℕ). x % 2 ^ w) (packed_front w f (suc j) (n - 1 - j) (λ i k. h i (omega arith)))
+    ∙ packed_last w f j (h j l)
   where
     e : n ≡ suc j + (n - 1 - j)
     e = omega arith
 
 -- a number is packed of its digits
-pub packed-of-digits : (w v n : ℕ) → packed w (λ (j : ℕ). v / 2 ^ ((n - 1 - j) * w) % 2 ^ w) n ≡ v % 2 ^ (n * w)
-packed-of-digits w v zero = sym (ap (λ (x : ℕ). v % 2 ^ x) (zero-mul w) ∙ mod-one v)
-packed-of-digits w v (suc n) =
+pub packed_of_digits : (w v n : ℕ) → packed w (λ (j : ℕ). v / 2 ^ ((n - 1 - j) * w) % 2 ^ w) n ≡ v % 2 ^ (n * w)
+packed_of_digits w v zero = sym (ap (λ (x : ℕ). v % 2 ^ x) (zero-mul w) ∙ mod-one v)
+packed_of_digits w v (suc n) =
     ap₂ (λ (x y : ℕ). x * 2 ^ w + y)
-    (packed-ext w (λ (j : ℕ). v / 2 ^ ((suc n - 1 - j) * w) % 2 ^ w) (λ (j : ℕ). v / 2 ^ w / 2 ^ ((n - 1 - j) * w) % 2 ^ w) n shorter
-    ∙ packed-of-digits w (v / 2 ^ w) n)
+    (packed_ext w (λ (j : ℕ). v / 2 ^ ((suc n - 1 - j) * w) % 2 ^ w) (λ (j : ℕ). v / 2 ^ w / 2 ^ ((n - 1 - j) * w) % 2 ^ w) n shorter
+    ∙ packed_of_digits w (v / 2 ^ w) n)
     last
     ∙ sym (mod-pow-add v (n * w) w) ∙ ap (λ (x : ℕ). v % 2 ^ x) (sym (suc-mul n w))
   where
@@ -87,7 +87,7 @@ packed-of-digits w v (suc n) =
     last = ap (λ (x : ℕ). v / 2 ^ x % 2 ^ w) (ap (λ (y : ℕ). y * w) none ∙ zero-mul w) ∙ ap (λ (x : ℕ). x % 2 ^ w) (div-one v)
 
 -- a number whose digits are the words is packed of the words
-pub packed-unique : (w : ℕ) (f : ℕ → ℕ) (n v : ℕ) → ((j : ℕ) → j < n → v / 2 ^ ((n - 1 - j) * w) % 2 ^ w ≡ f j)
+pub packed_unique : (w : ℕ) (f : ℕ → ℕ) (n v : ℕ) → ((j : ℕ) → j < n → v / 2 ^ ((n - 1 - j) * w) % 2 ^ w ≡ f j)
     → v % 2 ^ (n * w) ≡ packed w f n
-packed-unique w f n v h =
-    sym (packed-of-digits w v n) ∙ packed-ext w (λ (j : ℕ). v / 2 ^ ((n - 1 - j) * w) % 2 ^ w) f n h
+packed_unique w f n v h =
+    sym (packed_of_digits w v n) ∙ packed_ext w (λ (j : ℕ). v / 2 ^ ((n - 1 - j) * w) % 2 ^ w) f n h

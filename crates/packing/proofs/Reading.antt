@@ -7,21 +7,21 @@ use Rattle.packing.specs.Inner.{field_read, word_read, widest}
 use Rattle.packing.proofs.Fields.{field_lt}
 
 -- too many bits
-pub field-wide : (s : List ℕ) (b w : ℕ) → widest < w → field_read s b w ≡ 0
-field-wide s b w h = rw (lt-leb w widest h)
+pub field_wide : (s : List ℕ) (b w : ℕ) → widest < w → field_read s b w ≡ 0
+field_wide s b w h = rw (lt-leb w widest h)
 
 -- as many as are read at once
-pub field-there : (s : List ℕ) (b w : ℕ) → w ≤ widest → field_read s b w ≡ field_at s b w
-field-there s b w wide = rw (le-leb w widest wide)
+pub field_there : (s : List ℕ) (b w : ℕ) → w ≤ widest → field_read s b w ≡ field_at s b w
+field_there s b w wide = rw (le-leb w widest wide)
 
 -- a word that is not too wide
-pub read-there : (w : ℕ) (s : List ℕ) (j : ℕ) → w ≤ widest → word_read w s j ≡ word_at w s j
+pub read_there : (w : ℕ) (s : List ℕ) (j : ℕ) → w ≤ widest → word_read w s j ≡ word_at w s j
 unfolding word_at
-read-there w s j wide = field-there s (j * w) w wide
+read_there w s j wide = field_there s (j * w) w wide
 
 -- what is read has as many bits
-pub field-read-lt : (s : List ℕ) (b w : ℕ) → field_read s b w < 2 ^ w
-field-read-lt s b w = by (leb w widest)
+pub field_read_lt : (s : List ℕ) (b w : ℕ) → field_read s b w < 2 ^ w
+field_read_lt s b w = by (leb w widest)
   where
     by : (t : Bool) → cond t (field_at s b w) 0 < 2 ^ w
     by true = field_lt s b w

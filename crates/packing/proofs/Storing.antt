@@ -5,11 +5,11 @@ use lib.Seq.{set_at, drop-append-add}
 use lib.Pow.{shl-shr, field}
 use Rattle.packing.specs.Packing.{to_bytes}
 use Rattle.packing.specs.Writing.{stored}
-use Rattle.packing.proofs.Bytes.{length-to_bytes, to_bytes-low}
+use Rattle.packing.proofs.Bytes.{length-to_bytes, to_bytes_low}
 
 -- a byte is stored behind those written over a list
-pub write-next : (t before : List ℕ) (at b : ℕ) → length t ≡ at → at < length before → set (t ++ drop at before) at b ≡ (t ++ (b ∷ [])) ++ drop (at + 1) before
-write-next t before at b e h =
+pub write_next : (t before : List ℕ) (at b : ℕ) → length t ≡ at → at < length before → set (t ++ drop at before) at b ≡ (t ++ (b ∷ [])) ++ drop (at + 1) before
+write_next t before at b e h =
     ap (λ (l : List ℕ). set (t ++ l) at b) (drop-cons before at 0 h)
     ∙ set_at t (get_or before at 0) (drop (suc at) before) b at e
     ∙ sym (append_assoc t (b ∷ []) (drop (suc at) before))
@@ -21,8 +21,8 @@ eight_bytes v =
     v / 72057594037927936 ∷ v / 281474976710656 % 256 ∷ v / 1099511627776 % 256 ∷ v / 4294967296 % 256
     ∷ v / 16777216 % 256 ∷ v / 65536 % 256 ∷ v / 256 % 256 ∷ v % 256 ∷ []
 
-pub to_bytes-eight : (v : ℕ) → v < 2 ^ 64 → to_bytes 8 v ≡ eight_bytes v
-to_bytes-eight v h =
+pub to_bytes_eight : (v : ℕ) → v < 2 ^ 64 → to_bytes 8 v ≡ eight_bytes v
+to_bytes_eight v h =
     rw (shr-shr v 8 8, shr-shr v 16 8, shr-shr v 24 8, shr-shr v 32 8, shr-shr v 40 8, shr-shr v 48 8, mod-eq_of_lt top) refl
   where
     top : v / 72057594037927936 < 256
@@ -35,8 +35,8 @@ length-stored s a n v h =
     ∙ omega (arith, length-take a s, length-append (to_bytes n v) (drop (a + n) s), length-to_bytes n v, length-drop (a + n) s)
 
 -- bytes stored behind those that were written over a list
-pub stored-behind : (t s : List ℕ) (a n v : ℕ) → length t ≡ a → stored (t ++ drop a s) a n v ≡ (t ++ to_bytes n v) ++ drop (a + n) s
-stored-behind t s a n v e =
+pub stored_behind : (t s : List ℕ) (a n v : ℕ) → length t ≡ a → stored (t ++ drop a s) a n v ≡ (t ++ to_bytes n v) ++ drop (a + n) s
+stored_behind t s a n v e =
     ap₂ (λ (x y : List ℕ). x ++ (to_bytes n v ++ y)) (take_at t (drop a s) a e) behind
     ∙ sym (append_assoc t (to_bytes n v) (drop (a + n) s))
   where
@@ -45,14 +45,14 @@ stored-behind t s a n v e =
 
 -- a byte more of a number of 64 bits, of which m bytes are stored: the highest of what is left when those are shifted out
 module _ (s : List ℕ) (a v : ℕ) where
-  pub stored-none : s ≡ stored s a 0 (v / 2 ^ 64)
-  stored-none = sym (take-append-drop a s) ∙ ap (λ (n : ℕ). take a s ++ drop n s) (sym (add-zero a))
+  pub stored_none : s ≡ stored s a 0 (v / 2 ^ 64)
+  stored_none = sym (take-append-drop a s) ∙ ap (λ (n : ℕ). take a s ++ drop n s) (sym (add-zero a))
 
   pub stored_more : (m : ℕ) → m < 8 → a + m < length s
       → set (stored s a m (v / 2 ^ (64 - 8 * m))) (a + m) (v * 2 ^ (8 * m) % 2 ^ 64 / 72057594037927936) ≡ stored s a (m + 1) (v / 2 ^ (64 - 8 * (m + 1)))
   stored_more m few room =
       ap (λ (l : List ℕ). set l (a + m) b) (sym (append_assoc (take a s) (to_bytes m x) (drop (a + m) s)))
-      ∙ write-next (take a s ++ to_bytes m x) s (a + m) b
+      ∙ write_next (take a s ++ to_bytes m x) s (a + m) b
       (length-append (take a s) (to_bytes m x) ∙ omega (arith, length-take a s, length-to_bytes m x)) room
       ∙ ap₂ (λ (l : List ℕ) (n : ℕ). l ++ drop n s)
       (append_assoc (take a s) (to_bytes m x) (b ∷ [])
@@ -69,11 +69,11 @@ module _ (s : List ℕ) (a v : ℕ) where
       b : ℕ
       b = v * 2 ^ (8 * m) % 2 ^ 64 / 72057594037927936
 
-      eight-more : 64 - 8 * m ≡ 64 - 8 * (m + 1) + 8
-      eight-more = omega arith
+      eight_more : 64 - 8 * m ≡ 64 - 8 * (m + 1) + 8
+      eight_more = omega arith
 
       up : x ≡ y / 256
-      up = ap (λ (e : ℕ). v / 2 ^ e) eight-more ∙ sym (shr-shr v (64 - 8 * (m + 1)) 8)
+      up = ap (λ (e : ℕ). v / 2 ^ e) eight_more ∙ sym (shr-shr v (64 - 8 * (m + 1)) 8)
 
       seven : 56 ≡ 8 * m + (64 - 8 * (m + 1))
       seven = omega arith
@@ -100,15 +100,15 @@ module _ (s : List ℕ) (a v : ℕ) where
       more = omega arith
 
 -- the first n bytes of the lowest k bits of a number, moved up to the top of 64
-pub stored-top : (s : List ℕ) (a W k n : ℕ) → k ≤ 8 * n → n ≤ 8 → stored s a n (W * 2 ^ (64 - k) % 2 ^ 64 / 2 ^ (64 - 8 * n)) ≡ stored s a n (W * 2 ^ (8 * n - k))
-stored-top s a W k n h few =
+pub stored_top : (s : List ℕ) (a W k n : ℕ) → k ≤ 8 * n → n ≤ 8 → stored s a n (W * 2 ^ (64 - k) % 2 ^ 64 / 2 ^ (64 - 8 * n)) ≡ stored s a n (W * 2 ^ (8 * n - k))
+stored_top s a W k n h few =
     ap (λ (l : List ℕ). take a s ++ (l ++ drop (a + n) s))
     (ap (to_bytes n)
     (ap (λ (e : ℕ). W * 2 ^ (64 - k) % 2 ^ e / 2 ^ (64 - 8 * n)) whole
     ∙ field (W * 2 ^ (64 - k)) (8 * n) (64 - 8 * n)
     ∙ ap (λ (x : ℕ). x / 2 ^ (64 - 8 * n) % 2 ^ (8 * n)) (ap (λ (e : ℕ). W * 2 ^ e) apart ∙ ap (λ (x : ℕ). W * x) (pow-add 2 (8 * n - k) (64 - 8 * n)) ∙ regroup W (2 ^ (8 * n - k)) (2 ^ (64 - 8 * n)))
     ∙ ap (λ (x : ℕ). x % 2 ^ (8 * n)) (shl-shr (W * 2 ^ (8 * n - k)) (64 - 8 * n)))
-    ∙ to_bytes-low n (W * 2 ^ (8 * n - k)))
+    ∙ to_bytes_low n (W * 2 ^ (8 * n - k)))
   where
     whole : 64 ≡ 8 * n + (64 - 8 * n)
     whole = omega arith

@@ -17,12 +17,12 @@ in-range k e =
     (leb-true 1 k both.0, leb-true k 12 both.1)
 
 -- and what is from 1 to 12 passes
-pub range-in : (k : ℕ) → 1 ≤ k → k ≤ 12 → in_range k ≡ true
-range-in k low high = simp (le-leb 1 k low, le-leb k 12 high)
+pub range_in : (k : ℕ) → 1 ≤ k → k ≤ 12 → in_range k ≡ true
+range_in k low high = simp (le-leb 1 k low, le-leb k 12 high)
 
 -- what passes has 2^k words
-pub words-in-range : (k : ℕ) → in_range k ≡ true → words_or_0 k ≡ word_count k
-words-in-range k e = simp e
+pub words_in_range : (k : ℕ) → in_range k ≡ true → words_or_0 k ≡ word_count k
+words_in_range k e = simp e
 
 chosen : (b : Bool) (n i : ℕ) → i < cond b n 0 → b ≡ true
 chosen true n i h = refl
@@ -39,7 +39,7 @@ pub record Counted (k i count : ℕ) : Type 0 where
 pub counted : (k i count : ℕ) → count ≡ words_or_0 k → i < count → Counted k i count
 counted k i count e h =
     let r : in_range k ≡ true = chosen (in_range k) (word_count k) i (rw (sym e) h) in
-    let words : count ≡ 2 ^ k = e ∙ words-in-range k r in
+    let words : count ≡ 2 ^ k = e ∙ words_in_range k r in
     record { ranged = r; small = (in-range k r).1; words = words; below = omega (arith, words) }
 
 not_chosen : (b : Bool) (n : ℕ) → 0 < n → cond b n 0 ≡ 0 → b ≡ false

@@ -27,7 +27,7 @@ last_node k = 2 ^ k
 abbrev pub word_count : ℕ → ℕ
 word_count k = last_node k
 
--- the bytes of an image, which its words fill (2^k × (2k + 2) / 8 of them: `length-eighth` in Demand2)
+-- the bytes of an image, which its words fill (2^k × (2k + 2) / 8 of them: `length_eighth` in Demand2)
 abbrev pub image_length : ℕ → ℕ
 image_length k = byte_count (word_width k) (word_count k)
 

@@ -8,8 +8,8 @@ use Rattle.quotient.specs.Quotient.{rounded_up}
 use Rattle.quotient.specs.Inner.{rounds_up}
 
 -- r, which is p - M modulo 2^64, is below i exactly when p reaches M and passes it by less than i
-pub wrapped-test : (r p M i : ℕ) → r < 2 ^ 64 → M + i ≤ 2 ^ 64 → (r + M) % 2 ^ 64 ≡ p → ltb r i ≡ (leb M p && ltb p (M + i))
-wrapped-test r p M i fits room wraps =
+pub wrapped_test : (r p M i : ℕ) → r < 2 ^ 64 → M + i ≤ 2 ^ 64 → (r + M) % 2 ^ 64 ≡ p → ltb r i ≡ (leb M p && ltb p (M + i))
+wrapped_test r p M i fits room wraps =
     same _ _
     (λ t. let below = ltb-true r i t in let e : r + M ≡ p = omega (arith, below) in rw (le-leb M p (omega arith), lt-ltb p (M + i) (omega arith)))
     (λ t. let both = (and-eq-true_iff (leb M p) (ltb p (M + i))).0 t in lt-ltb r i (omega (arith, leb-true M p both.0, ltb-true p (M + i) both.1)))
@@ -26,9 +26,9 @@ module _ (M i : ℕ) (pos : 0 < i) where
   reaches = omega (arith, lt-div-mul-add {a = M + (i - 1)} pos)
 
   -- and passes it by less than the divisor
-  pub passes-less : rounded_up M i * i < M + i
+  pub passes_less : rounded_up M i * i < M + i
   unfolding rounded_up
-  passes-less = omega (arith, div-mul-le_self (M + (i - 1)) i)
+  passes_less = omega (arith, div-mul-le_self (M + (i - 1)) i)
 
   -- no smaller number reaches the numerator
   pub least : (c : ℕ) → M ≤ c * i → rounded_up M i ≤ c
@@ -51,7 +51,7 @@ module _ (M i : ℕ) (pos : 0 < i) where
   rounds-up c =
       same _ _
       (λ t. let both = (and-eq-true_iff _ _).0 t in eq-eqb _ _ (unique c (leb-true _ _ both.0) (ltb-true _ _ both.1)))
-      (λ t. rw (eqb-true c (rounded_up M i) t) (rw (le-leb _ _ reaches, lt-ltb _ _ passes-less)))
+      (λ t. rw (eqb-true c (rounded_up M i) t) (rw (le-leb _ _ reaches, lt-ltb _ _ passes_less)))
 
 -- a number that passes the test is the quotient rounded up, and the divisor is not 0
 pub passed : (M i c : ℕ) → rounds_up M i c ≡ true → c ≡ rounded_up M i

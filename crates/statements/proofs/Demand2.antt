@@ -1,34 +1,34 @@
 -- Demand 2: nodes, image and reciprocal. Its clauses in our own words, each with what settles it; theorems stand on this page where no other
 -- is named.
 --
--- 1. The nodes are those of Algorithm 1, 2^(3k+3) / i rounded up: node-reaches, node-least; their sizes and order: first-node, last-node,
---    node-between, node-leading-one, node-step. What the call on the constant list of precision 8 gives: node-8-listed, no-node-8.
--- 2. With two table guard bits: a node is counted in table units, two bits finer than the ulps of R: ulp-in-table-units, one-in-both-units,
---    first-node-is-one, exact-in-table-units.
--- 3. The image is that of these nodes: its length length-eighth, image-bytes, image-whole, length-listed, no_length; its words built-word; its bits
---    image-bit. The builder leaves it at the front of the buffer, and zeros behind it: built-rom, built-front, built-tail. What a word of any
---    bytes is: word_below, word-bit; what a zero word is: zero-word-first, zero-word-wrong.
--- 4. The reciprocal is that of Algorithm 2: step-t, with step-t-cut and step-t-padded, step-i, step-j, step-f, step-P, step-R, with line-P and
---    differences. The call gives it from every image that was built (built-gives), and gives no other from any image (given-is-R, in Demand3).
--- 5. With three input guard bits: t has 2k + 3 fraction bits, three more than 2k (step-t); k of them go to i and k + 3 to f
---    (step-i, step-f).
--- 6. Nodes that are read back from a built image are those that were put in: node-read-back.
--- 7. A buffer passes the check exactly when all words of its image are right and its tail is zero: check-passes-words; exactly when it is the
---    image and then zeros: check-passes-rom. The words are right exactly when its first bytes are the image: words-right-bytes. A buffer that
---    was built passes: built-passes.
--- 8. For all contents: what a buffer s holds, also before it is built, is any list of numbers. Only word-bit, check-passes-words,
---    words-right-bytes and check-passes-rom ask that these are bytes.
+-- 1. The nodes are those of Algorithm 1, 2^(3k+3) / i rounded up: node_reaches, node_least; their sizes and order: first_node, last-node,
+--    node_between, node_leading_one, node_step. What the call on the constant list of precision 8 gives: node_8_listed, no_node_8.
+-- 2. With two table guard bits: a node is counted in table units, two bits finer than the ulps of R: ulp_in_table_units, one_in_both_units,
+--    first_node_is_one, exact_in_table_units.
+-- 3. The image is that of these nodes: its length length_eighth, image_bytes, image_whole, length_listed, no_length; its words built_word; its bits
+--    image_bit. The builder leaves it at the front of the buffer, and zeros behind it: built_rom, built_front, built_tail. What a word of any
+--    bytes is: word_below, word_bit; what a zero word is: zero_word_first, zero_word_wrong.
+-- 4. The reciprocal is that of Algorithm 2: step_t, with step_t_cut and step_t_padded, step_i, step_j, step_f, step_P, step_R, with line_P and
+--    differences. The call gives it from every image that was built (built_gives), and gives no other from any image (given_is_R, in Demand3).
+-- 5. With three input guard bits: t has 2k + 3 fraction bits, three more than 2k (step_t); k of them go to i and k + 3 to f
+--    (step_i, step_f).
+-- 6. Nodes that are read back from a built image are those that were put in: node_read_back.
+-- 7. A buffer passes the check exactly when all words of its image are right and its tail is zero: check_passes_words; exactly when it is the
+--    image and then zeros: check_passes_rom. The words are right exactly when its first bytes are the image: words_right_bytes. A buffer that
+--    was built passes: built_passes.
+-- 8. For all contents: what a buffer s holds, also before it is built, is any list of numbers. Only word_bit, check_passes_words,
+--    words_right_bytes and check_passes_rom ask that these are bytes.
 --
 -- 9. While an image is built (document 02, Q-4), the bit place of the next word is one number, which starts at 0 and grows by the width at each word, for
---    any words and any width that can be put, up to 32: place-starts, place-grows; a word that has room can be put, room-to-put, and where one cannot be put, all
---    stays: put_keeps. Before word j the place is j × w, while that is below 2^64: place-before-word; each word of up to 32 bits that has room is put so:
---    word-is-put. Of a precision it is j × w before word j and 2^k × w after the last: place-before-node, place-after-last; and what is put then is the image:
---    puts-image.
+--    any words and any width that can be put, up to 32: place_starts, place_grows; a word that has room can be put, room_to_put, and where one cannot be put, all
+--    stays: put_keeps. Before word j the place is j × w, while that is below 2^64: place_before_word; each word of up to 32 bits that has room is put so:
+--    word_is_put. Of a precision it is j × w before word j and 2^k × w after the last: place_before_node, place_after_last; and what is put then is the image:
+--    puts_image.
 --
--- Which words and bytes a call reads is said by what its answer depends on (docs/DECISIONS.md, "Reading"): node-by-its-word, check-by-words,
--- reciprocal-by-words, reciprocal-by-lower-word, word-by-its-bytes; none past the image: node-by-image, reciprocal-by-image, part-by-image,
--- part-place-by-image, and, where a word is wrong, check-by-image. The reciprocal reads both words, whatever f is: lower-word-named,
--- upper-word-named, upper-word-named-at-0.
+-- Which words and bytes a call reads is said by what its answer depends on (docs/DECISIONS.md, "Reading"): node_by_its_word, check_by_words,
+-- reciprocal_by_words, reciprocal_by_lower_word, word_by_its_bytes; none past the image: node_by_image, reciprocal_by_image, part_by_image,
+-- part_place_by_image, and, where a word is wrong, check_by_image. The reciprocal reads both words, whatever f is: lower_word_named,
+-- upper_word_named, upper_word_named_at_0.
 --
 -- Each theorem assumes no more than ranges of its numbers: that k is a precision or from 1 on, that n is from 1 to 63, or at most or at least
 -- 2k + 3, that X is normalised, that a buffer is long enough, that its elements are bytes; and, where two buffers are compared or a wrong word is
@@ -42,16 +42,16 @@ use Prim.Native.Nat.{ℕ, suc, ◌+◌, ◌-◌, ◌*◌, ◌/◌, ◌%◌, ◌^
 use native.Mathlib.Omega.{arith}
 use lib.ListN.{length, take, drop, get_or}
 use Rattle.precision.specs.Precision.{in_range, image_length, length_or_0}
-use Rattle.precision.proofs.Range.{range-in}
+use Rattle.precision.proofs.Range.{range_in}
 use Rattle.units.specs.Units.{table_units_in_one, ulps_in_one, table_units_in_ulp}
-use Rattle.units.proofs.Laws.{ulp-in-units}
+use Rattle.units.proofs.Laws.{ulp_in_units}
 use Rattle.nodes.specs.Nodes.{node, node_or_0}
-use Rattle.nodes.proofs.Nodes.{node-first, node-last, node-above, node-below, node-falls, node-there, node-past}
+use Rattle.nodes.proofs.Nodes.{node_first, node_last, node_above, node_below, node_falls, node_there, node_past}
 use Rattle.quotient.proofs.Laws.{reaches, least}
 use Rattle.packing.specs.Packing.{Bytes, bit_at, bit_of_word}
 use Rattle.packing.specs.Writing.{can_put, put_writer, put_leaves, finish_leaves, writer_before, bytes_before}
 use Rattle.packing.specs.declared.writing.Writer.{Writer}
-use Rattle.packing.proofs.Written.{can-put, place_after, place-before, word-put}
+use Rattle.packing.proofs.Written.{can-put, place_after, place-before, word_put}
 use Rattle.tail.specs.Tail.{zeros}
 use Rattle.packing.proofs.Words.{word_lt}
 use Rattle.packing.proofs.Bits.{bit-of-word}
@@ -59,15 +59,15 @@ use Rattle.answers.specs.Refusal.{served}
 use Rattle.image.specs.Image.{plain, image, word_of}
 use Rattle.image.specs.Calls.{build_leaves, check_outcome, node_outcome, shown_part, shown_from}
 use Rattle.layout.proofs.Laws as layouts
-use Rattle.image.proofs.Laws.{plain_fits, eighths, whole-bytes, eighth-of-bits}
+use Rattle.image.proofs.Laws.{plain_fits, eighths, whole_bytes, eighth_of_bits}
 use Rattle.operand.specs.Operand.{cut_operand}
-use Rattle.operand.proofs.Laws.{cut-long, cut_short}
+use Rattle.operand.proofs.Laws.{cut_long, cut_short}
 use Rattle.interpolation.specs.Algorithm.{index, node_number, fraction, cut_product_sum}
 use Rattle.interpolation.specs.Reciprocal.{reciprocal}
 use Rattle.interpolation.specs.Calls.{reciprocal_outcome}
 use Rattle.statements.specs.Terms.{IsPrecision, IsLongEnough, IsRightAt, IsTailZero, IsFractionCount, IsNormalised}
-use Rattle.statements.proofs.Iff.{joined, failed, no-precision}
-use Rattle.statements.proofs.Demand1.{check-serves}
+use Rattle.statements.proofs.Iff.{joined, failed, no_precision}
+use Rattle.statements.proofs.Demand1.{check_serves}
 use Rattle.statements.proofs.Built
 use Rattle.statements.proofs.Depends
 use Rattle.statements.proofs.Nodes
@@ -79,44 +79,44 @@ use Rattle.statements.proofs.Units
 -- The nodes (document 002, Algorithm 1), for every k.
 module _ (k : ℕ) where
   -- c(j) is the least whole number with c × i ≥ 2^(3k+3), where i = 2^k + j
-  pub node-reaches : (j : ℕ) → 2 ^ (3 * k + 3) ≤ node k j * (2 ^ k + j)
-  node-reaches j = reaches (2 ^ (3 * k + 3)) (2 ^ k + j) (Nodes.index-positive k j)
+  pub node_reaches : (j : ℕ) → 2 ^ (3 * k + 3) ≤ node k j * (2 ^ k + j)
+  node_reaches j = reaches (2 ^ (3 * k + 3)) (2 ^ k + j) (Nodes.index_positive k j)
 
-  pub node-least : (j c : ℕ) → 2 ^ (3 * k + 3) ≤ c * (2 ^ k + j) → node k j ≤ c
-  node-least j = least (2 ^ (3 * k + 3)) (2 ^ k + j) (Nodes.index-positive k j)
+  pub node_least : (j c : ℕ) → 2 ^ (3 * k + 3) ≤ c * (2 ^ k + j) → node k j ≤ c
+  node_least j = least (2 ^ (3 * k + 3)) (2 ^ k + j) (Nodes.index_positive k j)
 
   -- a node is counted in table units and a reciprocal in ulps: one ulp is four table units
-  pub ulp-in-table-units : table_units_in_one k ≡ 4 * ulps_in_one k
-  ulp-in-table-units = ulp-in-units k
+  pub ulp_in_table_units : table_units_in_one k ≡ 4 * ulps_in_one k
+  ulp_in_table_units = ulp_in_units k
 
-  pub one-in-both-units : table_units_in_one k ≡ table_units_in_ulp * ulps_in_one k
-  one-in-both-units = ulp-in-units k
+  pub one_in_both_units : table_units_in_one k ≡ table_units_in_ulp * ulps_in_one k
+  one_in_both_units = ulp_in_units k
 
   -- node 0 is one, and 2^(3k+3) / i is the exact reciprocal of i / 2^k, which is 2^k / i, in table units
-  pub first-node-is-one : node k 0 ≡ table_units_in_one k
-  first-node-is-one = node-first k
+  pub first_node_is_one : node k 0 ≡ table_units_in_one k
+  first_node_is_one = node_first k
 
-  pub exact-in-table-units : 2 ^ (3 * k + 3) ≡ table_units_in_one k * 2 ^ k
-  exact-in-table-units = Units.node-exact k
+  pub exact_in_table_units : 2 ^ (3 * k + 3) ≡ table_units_in_one k * 2 ^ k
+  exact_in_table_units = Units.node_exact k
 
   -- c(0) = 2^(2k+3) and c(2^k) = 2^(2k+2)
-  pub first-node : node k 0 ≡ 2 ^ (2 * k + 3)
-  first-node = node-first k
+  pub first_node : node k 0 ≡ 2 ^ (2 * k + 3)
+  first_node = node_first k
 
   pub last-node : node k (2 ^ k) ≡ 2 ^ (2 * k + 2)
-  last-node = node-last k
+  last-node = node_last k
 
   -- every other value lies between them
-  pub node-between : (j : ℕ) → 0 < j → j < 2 ^ k → (2 ^ (2 * k + 2) < node k j) × (node k j < 2 ^ (2 * k + 3))
-  node-between j h l = (node-above k j l, node-below k j h)
+  pub node_between : (j : ℕ) → 0 < j → j < 2 ^ k → (2 ^ (2 * k + 2) < node k j) × (node k j < 2 ^ (2 * k + 3))
+  node_between j h l = (node_above k j l, node_below k j h)
 
   -- so but for node 0 every value has 2k + 3 bits with a leading one
-  pub node-leading-one : (j : ℕ) → 0 < j → j ≤ 2 ^ k → node k j / 2 ^ (2 * k + 2) ≡ 1
-  node-leading-one = Nodes.leading-one k
+  pub node_leading_one : (j : ℕ) → 0 < j → j ≤ 2 ^ k → node k j / 2 ^ (2 * k + 2) ≡ 1
+  node_leading_one = Nodes.leading-one k
 
   -- c falls from node to node
-  pub node-step : (j : ℕ) → j < 2 ^ k → node k (j + 1) < node k j
-  node-step = node-falls k
+  pub node_step : (j : ℕ) → j < 2 ^ k → node k (j + 1) < node k j
+  node_step = node_falls k
 
 -- The reciprocal (document 002, Algorithm 2), for every k, n and X: the definitions by the paper's letters, and its steps. Further down
 -- `j k n X` and `f k n X` are j and f of an operand.
@@ -143,36 +143,36 @@ module _ (k n X : ℕ) where
   R = reciprocal k n X
 
   -- 1. t has 2k + 3 fraction bits: floor(X / 2^(n-2k-3)) where X has as many or more, X × 2^(2k+3-n) where it has as many or fewer
-  pub step-t : t ≡ X * 2 ^ (2 * k + 3 - n) / 2 ^ (n - (2 * k + 3))
-  step-t = refl
+  pub step_t : t ≡ X * 2 ^ (2 * k + 3 - n) / 2 ^ (n - (2 * k + 3))
+  step_t = refl
 
-  pub step-t-cut : 2 * k + 3 ≤ n → t ≡ X / 2 ^ (n - (2 * k + 3))
-  step-t-cut enough = cut-long (2 * k + 3) n enough X
+  pub step_t_cut : 2 * k + 3 ≤ n → t ≡ X / 2 ^ (n - (2 * k + 3))
+  step_t_cut enough = cut_long (2 * k + 3) n enough X
 
-  pub step-t-padded : n ≤ 2 * k + 3 → t ≡ X * 2 ^ (2 * k + 3 - n)
-  step-t-padded few = cut_short (2 * k + 3) n few X
+  pub step_t_padded : n ≤ 2 * k + 3 → t ≡ X * 2 ^ (2 * k + 3 - n)
+  step_t_padded few = cut_short (2 * k + 3) n few X
 
   -- 2. i = floor(t / 2^(k+3)), j = i - 2^k, f = t modulo 2^(k+3)
-  pub step-i : i ≡ t / 2 ^ (k + 3)
-  step-i = refl
+  pub step_i : i ≡ t / 2 ^ (k + 3)
+  step_i = refl
 
-  pub step-j : j ≡ i - 2 ^ k
-  step-j = refl
+  pub step_j : j ≡ i - 2 ^ k
+  step_j = refl
 
-  pub step-f : f ≡ t % 2 ^ (k + 3)
-  step-f = refl
+  pub step_f : f ≡ t % 2 ^ (k + 3)
+  step_f = refl
 
   -- 3. P = c(j) × 2^(k+3) - (c(j) - c(j+1)) × f
-  pub step-P : P ≡ c j * 2 ^ (k + 3) - (c j - c (j + 1)) * f
-  step-P = refl
+  pub step_P : P ≡ c j * 2 ^ (k + 3) - (c j - c (j + 1)) * f
+  step_P = refl
 
   -- 4. R = floor(P / 2^(k+5))
-  pub step-R : R ≡ P / 2 ^ (k + 5)
-  step-R = refl
+  pub step_R : R ≡ P / 2 ^ (k + 5)
+  step_R = refl
 
   -- so P lies on the line between both nodes
-  pub line-P : P ≡ c j * (2 ^ (k + 3) - f) + c (j + 1) * f
-  line-P = Sizes.on-the-line k t
+  pub line_P : P ≡ c j * (2 ^ (k + 3) - f) + c (j + 1) * f
+  line_P = Sizes.on_the_line k t
 
   -- no difference of steps 2 and 3 falls below 0 where X is normalised
   pub differences : IsNormalised n X → (2 ^ k + j ≡ i) × (j < 2 ^ k) × (c (j + 1) ≤ c j) × ((c j - c (j + 1)) * f ≤ c j * 2 ^ (k + 3))
@@ -180,128 +180,128 @@ module _ (k n X : ℕ) where
 
 -- The image has 2^k × (2k + 2) / 8 bytes, and these are whole, for every k from 1.
 module _ (k : ℕ) (one : 1 ≤ k) where
-  pub length-eighth : image_length k ≡ 2 ^ k * (2 * k + 2) / 8
-  length-eighth = eighth-of-bits k one
+  pub length_eighth : image_length k ≡ 2 ^ k * (2 * k + 2) / 8
+  length_eighth = eighth_of_bits k one
 
-  pub image-bytes : length (image k) ≡ 2 ^ k * (2 * k + 2) / 8
-  image-bytes = layouts.image-length (plain k) ∙ length-eighth
+  pub image_bytes : length (image k) ≡ 2 ^ k * (2 * k + 2) / 8
+  image_bytes = layouts.image-length (plain k) ∙ length_eighth
 
-  pub image-whole : 8 * (2 ^ k * (2 * k + 2) / 8) ≡ 2 ^ k * (2 * k + 2)
-  image-whole = eighths k one
+  pub image_whole : 8 * (2 ^ k * (2 * k + 2) / 8) ≡ 2 ^ k * (2 * k + 2)
+  image_whole = eighths k one
 
 -- What it holds.
 module _ (k : ℕ) (p : IsPrecision k) where
   -- the builder leaves the image and zeros to the end of the buffer, whatever stood there before: of what it is lent, only the length counts
-  pub built-rom : (s : List ℕ) → IsLongEnough k s → build_leaves k s ≡ image k ++ zeros (length s - image_length k)
-  built-rom s l = Built.built k s p l
+  pub built_rom : (s : List ℕ) → IsLongEnough k s → build_leaves k s ≡ image k ++ zeros (length s - image_length k)
+  built_rom s l = Built.built k s p l
 
-  pub built-front : (s : List ℕ) → IsLongEnough k s → take (image_length k) (build_leaves k s) ≡ image k
-  built-front s l = Built.front k s p l
+  pub built_front : (s : List ℕ) → IsLongEnough k s → take (image_length k) (build_leaves k s) ≡ image k
+  built_front s l = Built.front k s p l
 
-  pub built-tail : (s : List ℕ) → IsLongEnough k s → IsTailZero k (build_leaves k s)
-  built-tail s l = Built.tail-zero k s p l
+  pub built_tail : (s : List ℕ) → IsLongEnough k s → IsTailZero k (build_leaves k s)
+  built_tail s l = Built.tail_zero k s p l
 
   -- the words of a built image are c(j) modulo 2^(2k+2), whatever the buffer held before
-  pub built-word : (s : List ℕ) → IsLongEnough k s → (j : ℕ) → j < 2 ^ k → word_of k (build_leaves k s) j ≡ node k j % 2 ^ (2 * k + 2)
-  built-word s l j h = Built.built-words k s p l j h
+  pub built_word : (s : List ℕ) → IsLongEnough k s → (j : ℕ) → j < 2 ^ k → word_of k (build_leaves k s) j ≡ node k j % 2 ^ (2 * k + 2)
+  built_word s l j h = Built.built_words k s p l j h
 
   -- most significant bit first, with no padding: bit b of word j is bit j × w + b of the image
-  pub image-bit : (j b : ℕ) → j < 2 ^ k → b < 2 * k + 2 → bit_at (image k) (j * (2 * k + 2) + b) ≡ bit_of_word (2 * k + 2) (node k j % 2 ^ (2 * k + 2)) b
-  image-bit j b h l = Built.image-bits k j b h l
+  pub image_bit : (j b : ℕ) → j < 2 ^ k → b < 2 * k + 2 → bit_at (image k) (j * (2 * k + 2) + b) ≡ bit_of_word (2 * k + 2) (node k j % 2 ^ (2 * k + 2)) b
+  image_bit j b h l = Built.image_bits k j b h l
 
   -- every node read back from a buffer that was built is served and is c(j), whatever the buffer held before
-  pub node-read-back : (s : List ℕ) → IsLongEnough k s → (j : ℕ) → j ≤ 2 ^ k → node_outcome k (build_leaves k s) j ≡ served (node k j)
-  node-read-back s l j h = Built.read_back k s p l j h
+  pub node_read_back : (s : List ℕ) → IsLongEnough k s → (j : ℕ) → j ≤ 2 ^ k → node_outcome k (build_leaves k s) j ≡ served (node k j)
+  node_read_back s l j h = Built.read_back k s p l j h
 
   -- and the buffer passes the check
-  pub built-passes : (s : List ℕ) → IsLongEnough k s → check_outcome k (build_leaves k s) ≡ served 0
-  built-passes s l = Built.built-checks k s p l
+  pub built_passes : (s : List ℕ) → IsLongEnough k s → check_outcome k (build_leaves k s) ≡ served 0
+  built_passes s l = Built.built_checks k s p l
 
   -- every operand in range is given its R from a buffer that was built, whatever the buffer held before
-  pub built-gives : (s : List ℕ) → IsLongEnough k s → (n X : ℕ) → IsFractionCount n → IsNormalised n X → reciprocal_outcome k (build_leaves k s) n X ≡ served (reciprocal k n X)
-  built-gives s l = Built.built-gives k s p l
+  pub built_gives : (s : List ℕ) → IsLongEnough k s → (n X : ℕ) → IsFractionCount n → IsNormalised n X → reciprocal_outcome k (build_leaves k s) n X ≡ served (reciprocal k n X)
+  built_gives s l = Built.built_gives k s p l
 
   -- a buffer passes the check exactly when each word is the construction's and each byte past the image is zero
-  pub check-passes-words : (s : List ℕ) → Bytes s → IsLongEnough k s
+  pub check_passes_words : (s : List ℕ) → Bytes s → IsLongEnough k s
       → ((check_outcome k s).number ≡ 0) ↔ (((j : ℕ) → j < 2 ^ k → word_of k s j ≡ node k j % 2 ^ (2 * k + 2)) × ((i : ℕ) → image_length k ≤ i → i < length s → get_or s i 0 ≡ 0))
-  check-passes-words s b l = joined (check-serves k s b) (λ t. (t.2, t.3), λ t. (p, l, t.0, t.1))
+  check_passes_words s b l = joined (check_serves k s b) (λ t. (t.2, t.3), λ t. (p, l, t.0, t.1))
 
   -- the words are right exactly when the first bytes are the image
-  pub words-right-bytes : (s : List ℕ) → Bytes s → IsLongEnough k s → ((j : ℕ) → j < 2 ^ k → word_of k s j ≡ node k j % 2 ^ (2 * k + 2)) ↔ (take (image_length k) s ≡ image k)
-  words-right-bytes s b l = (layouts.right-front (plain k) (plain_fits k) (whole-bytes k p.0) s b l, layouts.front-right (plain k) (plain_fits k) s)
+  pub words_right_bytes : (s : List ℕ) → Bytes s → IsLongEnough k s → ((j : ℕ) → j < 2 ^ k → word_of k s j ≡ node k j % 2 ^ (2 * k + 2)) ↔ (take (image_length k) s ≡ image k)
+  words_right_bytes s b l = (layouts.right_front (plain k) (plain_fits k) (whole_bytes k p.0) s b l, layouts.front_right (plain k) (plain_fits k) s)
 
   -- and the buffer passes exactly when it is the image and then zeros
-  pub check-passes-rom : (s : List ℕ) → Bytes s → IsLongEnough k s → ((check_outcome k s).number ≡ 0) ↔ (s ≡ image k ++ zeros (length s - image_length k))
-  check-passes-rom s b l = joined (check-passes-words s b l) (Built.right-is-rom k s p b l)
+  pub check_passes_rom : (s : List ℕ) → Bytes s → IsLongEnough k s → ((check_outcome k s).number ≡ 0) ↔ (s ≡ image k ++ zeros (length s - image_length k))
+  check_passes_rom s b l = joined (check_passes_words s b l) (Built.right_is_rom k s p b l)
 
 -- A put, by any writer r, of any word v of w bits into any buffer s. Where the word can be put, the place grows by w, while it stays below 2^64; where the word is
 -- wider than 32 bits, or eight bytes are to be stored and have no room, the writer is given back and every byte stays.
 module _ (s : List ℕ) (r : Writer) (w v : ℕ) where
-  pub place-grows : can_put (length s) r w ≡ true → r.place + w < 2 ^ 64 → (put_writer s r w v).place ≡ r.place + w
-  place-grows can few = place_after s r w v can few
+  pub place_grows : can_put (length s) r w ≡ true → r.place + w < 2 ^ 64 → (put_writer s r w v).place ≡ r.place + w
+  place_grows can few = place_after s r w v can few
 
   pub put_keeps : can_put (length s) r w ≡ false → (put_writer s r w v ≡ r) × (put_leaves s r w v ≡ s)
   put_keeps cannot = rw cannot (refl, refl)
 
   -- a word of up to 32 bits that ends within the buffer can be put
-  pub room-to-put : w ≤ 32 → r.place + w ≤ 8 * length s → can_put (length s) r w ≡ true
-  room-to-put wide room = can-put (length s) r w wide room
+  pub room_to_put : w ≤ 32 → r.place + w ≤ 8 * length s → can_put (length s) r w ≡ true
+  room_to_put wide room = can-put (length s) r w wide room
 
 -- The bit place while words f(0), f(1), .. of w bits are put one by one, for any f.
 module _ (w : ℕ) (f : ℕ → ℕ) where
-  pub place-starts : (writer_before w f 0).place ≡ 0
-  place-starts = refl
+  pub place_starts : (writer_before w f 0).place ≡ 0
+  place_starts = refl
 
-  pub place-before-word : (j : ℕ) → j * w < 2 ^ 64 → (writer_before w f j).place ≡ j * w
-  place-before-word j few = place-before w f j few
+  pub place_before_word : (j : ℕ) → j * w < 2 ^ 64 → (writer_before w f j).place ≡ j * w
+  place_before_word j few = place-before w f j few
 
   -- what a put of word j gives, where it has room, is what stands before word j + 1
-  pub word-is-put : (s : List ℕ) (j : ℕ) → w ≤ 32 → j * w + w < 2 ^ 64 → j * w + w ≤ 8 * length s
+  pub word_is_put : (s : List ℕ) (j : ℕ) → w ≤ 32 → j * w + w < 2 ^ 64 → j * w + w ≤ 8 * length s
       → (put_writer (bytes_before w f s j) (writer_before w f j) w (f j) ≡ writer_before w f (suc j)) × (put_leaves (bytes_before w f s j) (writer_before w f j) w (f j) ≡ bytes_before w f s (suc j))
-  word-is-put s j wide few room = word-put w f s j wide few room
+  word_is_put s j wide few room = word_put w f s j wide few room
 
 -- Of a precision, whose words are the lowest w = 2k + 2 bits of the nodes: before word j the place is j × w, after the last it is 2^k × w.
 module _ (k : ℕ) (p : IsPrecision k) where
-  pub place-before-node : (j : ℕ) → j ≤ 2 ^ k → (writer_before (2 * k + 2) (node k) j).place ≡ j * (2 * k + 2)
-  place-before-node j h = Puts.place k p j h
+  pub place_before_node : (j : ℕ) → j ≤ 2 ^ k → (writer_before (2 * k + 2) (node k) j).place ≡ j * (2 * k + 2)
+  place_before_node j h = Puts.place k p j h
 
-  pub place-after-last : (writer_before (2 * k + 2) (node k) (2 ^ k)).place ≡ 2 ^ k * (2 * k + 2)
-  place-after-last = Puts.place k p (2 ^ k) (omega arith)
+  pub place_after_last : (writer_before (2 * k + 2) (node k) (2 ^ k)).place ≡ 2 ^ k * (2 * k + 2)
+  place_after_last = Puts.place k p (2 ^ k) (omega arith)
 
   -- and with what still waits, the image stands at the front of the buffer, and what was behind it stays
-  pub puts-image : (s : List ℕ) → IsLongEnough k s
+  pub puts_image : (s : List ℕ) → IsLongEnough k s
       → finish_leaves (bytes_before (2 * k + 2) (node k) s (2 ^ k)) (writer_before (2 * k + 2) (node k) (2 ^ k)) ≡ image k ++ drop (image_length k) s
-  puts-image s l = Puts.finished k p s l
+  puts_image s l = Puts.finished k p s l
 
 -- What an answer depends on.
 module _ (k : ℕ) (s s' : List ℕ) (l : IsLongEnough k s) (m : IsLongEnough k s') where
   -- a node's answer depends on its own word alone, and at node 2^k on none
-  pub node-by-its-word : (j : ℕ) → (j < 2 ^ k → word_of k s j ≡ word_of k s' j) → node_outcome k s j ≡ node_outcome k s' j
-  node-by-its-word = Depends.node-same k s s' l m
+  pub node_by_its_word : (j : ℕ) → (j < 2 ^ k → word_of k s j ≡ word_of k s' j) → node_outcome k s j ≡ node_outcome k s' j
+  node_by_its_word = Depends.node_same k s s' l m
 
   -- where a word is wrong, the check's depends on the words of the image alone, whatever the tail holds; where all are
-  -- right, the tail decides (check-serves, check-refuses-7 and check-place-7 in Demand1)
-  pub check-by-words : (j : ℕ) → j < 2 ^ k → (IsRightAt k s j → ⊥) → ((i : ℕ) → i < 2 ^ k → word_of k s i ≡ word_of k s' i) → check_outcome k s ≡ check_outcome k s'
-  check-by-words = Depends.check-same k s s' l m
+  -- right, the tail decides (check_serves, check_refuses_7 and check_place_7 in Demand1)
+  pub check_by_words : (j : ℕ) → j < 2 ^ k → (IsRightAt k s j → ⊥) → ((i : ℕ) → i < 2 ^ k → word_of k s i ≡ word_of k s' i) → check_outcome k s ≡ check_outcome k s'
+  check_by_words = Depends.check_same k s s' l m
 
   -- the reciprocal's depends on the words of j and j + 1 alone, and where j + 1 is 2^k on that of j
-  pub reciprocal-by-words : (n X : ℕ) → word_of k s (j k n X) ≡ word_of k s' (j k n X) → (j k n X + 1 < 2 ^ k → word_of k s (j k n X + 1) ≡ word_of k s' (j k n X + 1)) → reciprocal_outcome k s n X ≡ reciprocal_outcome k s' n X
-  reciprocal-by-words n X e = Depends.reciprocal-same k s s' l m n X (λ h. e)
+  pub reciprocal_by_words : (n X : ℕ) → word_of k s (j k n X) ≡ word_of k s' (j k n X) → (j k n X + 1 < 2 ^ k → word_of k s (j k n X + 1) ≡ word_of k s' (j k n X + 1)) → reciprocal_outcome k s n X ≡ reciprocal_outcome k s' n X
+  reciprocal_by_words n X e = Depends.reciprocal_same k s s' l m n X (λ h. e)
 
-  pub reciprocal-by-lower-word : (n X : ℕ) → j k n X + 1 ≡ 2 ^ k → word_of k s (j k n X) ≡ word_of k s' (j k n X) → reciprocal_outcome k s n X ≡ reciprocal_outcome k s' n X
-  reciprocal-by-lower-word n X last e = reciprocal-by-words n X e (λ h. absurd (omega (arith, h, last)))
+  pub reciprocal_by_lower_word : (n X : ℕ) → j k n X + 1 ≡ 2 ^ k → word_of k s (j k n X) ≡ word_of k s' (j k n X) → reciprocal_outcome k s n X ≡ reciprocal_outcome k s' n X
+  reciprocal_by_lower_word n X last e = reciprocal_by_words n X e (λ h. absurd (omega (arith, h, last)))
 
 -- The reciprocal reads both words, whatever f is: a wrong one is named, the lower first.
 module _ (k : ℕ) (s : List ℕ) (n X : ℕ) (p : IsPrecision k) (l : IsLongEnough k s) (q : IsFractionCount n) (o : IsNormalised n X) where
-  pub lower-word-named : (IsRightAt k s (j k n X) → ⊥) → reciprocal_outcome k s n X ≡ record { number = 6; place = j k n X; value = 0 }
-  lower-word-named = Reciprocals.lower-named k n X s p l q o
+  pub lower_word_named : (IsRightAt k s (j k n X) → ⊥) → reciprocal_outcome k s n X ≡ record { number = 6; place = j k n X; value = 0 }
+  lower_word_named = Reciprocals.lower_named k n X s p l q o
 
-  pub upper-word-named : IsRightAt k s (j k n X) → j k n X + 1 < 2 ^ k → (IsRightAt k s (j k n X + 1) → ⊥) → reciprocal_outcome k s n X ≡ record { number = 6; place = j k n X + 1; value = 0 }
-  upper-word-named = Reciprocals.upper-named k n X s p l q o
+  pub upper_word_named : IsRightAt k s (j k n X) → j k n X + 1 < 2 ^ k → (IsRightAt k s (j k n X + 1) → ⊥) → reciprocal_outcome k s n X ≡ record { number = 6; place = j k n X + 1; value = 0 }
+  upper_word_named = Reciprocals.upper_named k n X s p l q o
 
   -- also when f is 0 and R does not depend on node j + 1
-  pub upper-word-named-at-0 : f k n X ≡ 0 → IsRightAt k s (j k n X) → j k n X + 1 < 2 ^ k → (IsRightAt k s (j k n X + 1) → ⊥) → reciprocal_outcome k s n X ≡ record { number = 6; place = j k n X + 1; value = 0 }
-  upper-word-named-at-0 e = upper-word-named
+  pub upper_word_named_at_0 : f k n X ≡ 0 → IsRightAt k s (j k n X) → j k n X + 1 < 2 ^ k → (IsRightAt k s (j k n X + 1) → ⊥) → reciprocal_outcome k s n X ≡ record { number = 6; place = j k n X + 1; value = 0 }
+  upper_word_named_at_0 e = upper_word_named
 
 -- The word at j of any bytes, whoever wrote them: a number of 2k + 2 bits, and bit b of it is bit j × (2k + 2) + b of the buffer, the most
 -- significant bit of a word and of a byte being bit 0.
@@ -309,50 +309,50 @@ module _ (k : ℕ) (s : List ℕ) (j : ℕ) where
   pub word_below : word_of k s j < 2 ^ (2 * k + 2)
   word_below = word_lt (2 * k + 2) s j
 
-  pub word-bit : Bytes s → (b : ℕ) → b < 2 * k + 2 → bit_of_word (2 * k + 2) (word_of k s j) b ≡ bit_at s (j * (2 * k + 2) + b)
-  word-bit bytes b = bit-of-word (2 * k + 2) s j b bytes
+  pub word_bit : Bytes s → (b : ℕ) → b < 2 * k + 2 → bit_of_word (2 * k + 2) (word_of k s j) b ≡ bit_at s (j * (2 * k + 2) + b)
+  word_bit bytes b = bit-of-word (2 * k + 2) s j b bytes
 
 -- The word of node j stands in its own bytes.
-pub word-by-its-bytes : (k : ℕ) (s s' : List ℕ) (j : ℕ) → ((i : ℕ) → j * (2 * k + 2) / 8 ≤ i → i ≤ (j * (2 * k + 2) + (2 * k + 2) - 1) / 8 → get_or s i 0 ≡ get_or s' i 0) → word_of k s j ≡ word_of k s' j
-word-by-its-bytes k s s' j = Depends.word_same k s s' j
+pub word_by_its_bytes : (k : ℕ) (s s' : List ℕ) (j : ℕ) → ((i : ℕ) → j * (2 * k + 2) / 8 ≤ i → i ≤ (j * (2 * k + 2) + (2 * k + 2) - 1) / 8 → get_or s i 0 ≡ get_or s' i 0) → word_of k s j ≡ word_of k s' j
+word_by_its_bytes k s s' j = Depends.word_same k s s' j
 
 -- A node, the reciprocal and the bytes of a word do not depend on the tail: two buffers with the same image at their front get the same
 -- answers, whatever follows it and however long they are. So does the check where a word is wrong.
 module _ (k : ℕ) (s s' : List ℕ) (p : IsPrecision k) (l : IsLongEnough k s) (m : IsLongEnough k s') (e : take (image_length k) s ≡ take (image_length k) s') where
-  pub check-by-image : (j : ℕ) → j < 2 ^ k → (IsRightAt k s j → ⊥) → check_outcome k s ≡ check_outcome k s'
-  check-by-image = Depends.front-check k s s' p l m e
+  pub check_by_image : (j : ℕ) → j < 2 ^ k → (IsRightAt k s j → ⊥) → check_outcome k s ≡ check_outcome k s'
+  check_by_image = Depends.front_check k s s' p l m e
 
-  pub node-by-image : (j : ℕ) → node_outcome k s j ≡ node_outcome k s' j
-  node-by-image = Depends.front-node k s s' p l m e
+  pub node_by_image : (j : ℕ) → node_outcome k s j ≡ node_outcome k s' j
+  node_by_image = Depends.front_node k s s' p l m e
 
-  pub reciprocal-by-image : (n X : ℕ) → reciprocal_outcome k s n X ≡ reciprocal_outcome k s' n X
-  reciprocal-by-image = Depends.front-reciprocal k s s' p l m e
+  pub reciprocal_by_image : (n X : ℕ) → reciprocal_outcome k s n X ≡ reciprocal_outcome k s' n X
+  reciprocal_by_image = Depends.front_reciprocal k s s' p l m e
 
-  pub part-by-image : (j : ℕ) → shown_part k s j ≡ shown_part k s' j
-  part-by-image = Depends.front-part k s s' p l m e
+  pub part_by_image : (j : ℕ) → shown_part k s j ≡ shown_part k s' j
+  part_by_image = Depends.front_part k s s' p l m e
 
-  pub part-place-by-image : (j : ℕ) → shown_from k s j ≡ shown_from k s' j
-  part-place-by-image = Depends.front-place k s s' p l m e
+  pub part_place_by_image : (j : ℕ) → shown_from k s j ≡ shown_from k s' j
+  part_place_by_image = Depends.front_place k s s' p l m e
 
 -- A zero word means 2^(2k+3) at node 0. At any other node it is wrong.
 module _ (k : ℕ) (s : List ℕ) where
-  pub zero-word-first : IsPrecision k → IsLongEnough k s → (word_of k s 0 ≡ 0) ↔ (node_outcome k s 0 ≡ served (2 ^ (2 * k + 3)))
-  zero-word-first = Nodes.zero-node k s
+  pub zero_word_first : IsPrecision k → IsLongEnough k s → (word_of k s 0 ≡ 0) ↔ (node_outcome k s 0 ≡ served (2 ^ (2 * k + 3)))
+  zero_word_first = Nodes.zero_node k s
 
-  pub zero-word-wrong : (j : ℕ) → 0 < j → j < 2 ^ k → word_of k s j ≡ 0 → IsRightAt k s j → ⊥
-  zero-word-wrong = Nodes.zero-wrong k s
+  pub zero_word_wrong : (j : ℕ) → 0 < j → j < 2 ^ k → word_of k s j ≡ 0 → IsRightAt k s j → ⊥
+  zero_word_wrong = Nodes.zero_wrong k s
 
 -- What the calls for an image length and for a node of precision 8 give, each read from a constant list: the formula, and 0 where there is none.
 module _ (k : ℕ) where
-  pub length-listed : IsPrecision k → length_or_0 k ≡ 2 ^ k * (2 * k + 2) / 8
-  length-listed p = rw (range-in k p.0 p.1) (length-eighth k p.0)
+  pub length_listed : IsPrecision k → length_or_0 k ≡ 2 ^ k * (2 * k + 2) / 8
+  length_listed p = rw (range_in k p.0 p.1) (length_eighth k p.0)
 
   pub no_length : (IsPrecision k → ⊥) → length_or_0 k ≡ 0
-  no_length f = rw (failed (in_range k) ((no-precision k).1 f))
+  no_length f = rw (failed (in_range k) ((no_precision k).1 f))
 
 module _ (j : ℕ) where
-  pub node-8-listed : j ≤ 256 → node_or_0 8 j ≡ node 8 j
-  node-8-listed = node-there 8 refl j
+  pub node_8_listed : j ≤ 256 → node_or_0 8 j ≡ node 8 j
+  node_8_listed = node_there 8 refl j
 
-  pub no-node-8 : 256 < j → node_or_0 8 j ≡ 0
-  no-node-8 = node-past 8 j
+  pub no_node_8 : 256 < j → node_or_0 8 j ≡ 0
+  no_node_8 = node_past 8 j

@@ -15,45 +15,45 @@ infixr 4 ◌also◌
 ◌also◌ : {A B : Type 0} → A → B → A × B
 a also b = (a, b)
 
-images-hold : Each ImageHolds image_examples
+images_hold : Each ImageHolds image_examples
 unfolding rounded_up word_at field_at lowest
-images-hold =
+images_hold =
     record { answered = refl; built = refl; read = refl; passes = refl }
     also record { answered = refl; built = refl; read = refl; passes = refl }
     also record { answered = refl; built = refl; read = refl; passes = refl }
     also tt
 
-roms-hold : Each RomHolds rom_examples
+roms_hold : Each RomHolds rom_examples
 unfolding rounded_up word_at field_at lowest
-roms-hold = record { answered = refl; built = refl; passes = refl } also tt
+roms_hold = record { answered = refl; built = refl; passes = refl } also tt
 
-faults-hold : Each FaultHolds fault_examples
+faults_hold : Each FaultHolds fault_examples
 unfolding rounded_up word_at field_at lowest
-faults-hold = refl also refl also tt
+faults_hold = refl also refl also tt
 
-reciprocals-hold : Each ReciprocalHolds reciprocal_examples
+reciprocals_hold : Each ReciprocalHolds reciprocal_examples
 unfolding rounded_up word_at field_at
-reciprocals-hold =
-    record { is-R = refl; given = refl; is-P = tt }
-    also record { is-R = refl; given = refl; is-P = tt }
-    also record { is-R = refl; given = refl; is-P = refl also tt }
-    also record { is-R = refl; given = refl; is-P = tt }
-    also record { is-R = refl; given = refl; is-P = tt }
-    also record { is-R = refl; given = refl; is-P = tt }
-    also record { is-R = refl; given = refl; is-P = tt }
-    also record { is-R = refl; given = refl; is-P = tt }
-    also record { is-R = refl; given = refl; is-P = tt }
-    also record { is-R = refl; given = refl; is-P = tt }
-    also record { is-R = refl; given = refl; is-P = tt }
+reciprocals_hold =
+    record { is_R = refl; given = refl; is_P = tt }
+    also record { is_R = refl; given = refl; is_P = tt }
+    also record { is_R = refl; given = refl; is_P = refl also tt }
+    also record { is_R = refl; given = refl; is_P = tt }
+    also record { is_R = refl; given = refl; is_P = tt }
+    also record { is_R = refl; given = refl; is_P = tt }
+    also record { is_R = refl; given = refl; is_P = tt }
+    also record { is_R = refl; given = refl; is_P = tt }
+    also record { is_R = refl; given = refl; is_P = tt }
+    also record { is_R = refl; given = refl; is_P = tt }
+    also record { is_R = refl; given = refl; is_P = tt }
     also tt
 
-refusals-hold : Each RefusedHolds refused_examples
+refusals_hold : Each RefusedHolds refused_examples
 unfolding rounded_up word_at field_at
-refusals-hold = refl also refl also refl also refl also refl also tt
+refusals_hold = refl also refl also refl also refl also refl also tt
 
-texts-hold : Each TextHolds text_examples
+texts_hold : Each TextHolds text_examples
 unfolding precision_of line_reading digits decimal rounded_up field line lines header table_of table_text
-texts-hold = refl also refl also refl also tt
+texts_hold = refl also refl also refl also tt
 
-pub examples-hold : ExamplesHold
-examples-hold = record { images = images-hold; roms = roms-hold; faults = faults-hold; reciprocals = reciprocals-hold; refusals = refusals-hold; texts = texts-hold }
+pub examples_hold : ExamplesHold
+examples_hold = record { images = images_hold; roms = roms_hold; faults = faults_hold; reciprocals = reciprocals_hold; refusals = refusals_hold; texts = texts_hold }

@@ -13,14 +13,14 @@ use borrow.Author.Tests.{lt-ltb}
 use Rattle.bools.proofs.Bools.{clash, below_or_not}
 use Rattle.packing.specs.Packing.{Bytes}
 use Rattle.precision.specs.Precision.{in_range, word_count}
-use Rattle.precision.proofs.Range.{in-range, range-in}
+use Rattle.precision.proofs.Range.{in-range, range_in}
 use Rattle.layout.specs.Layout.{is_wrong, first_wrong, first_past}
-use Rattle.layout.proofs.Laws.{not-wrong, right-not-wrong, all_right, wrong-there, right-before}
-use Rattle.layout.proofs.Rom.{past-zero, past-there, past-none}
+use Rattle.layout.proofs.Laws.{not_wrong, right_not_wrong, all_right, wrong_there, right_before}
+use Rattle.layout.proofs.Rom.{past_zero, past_there, past_none}
 use Rattle.image.specs.Image.{plain}
-use Rattle.image.proofs.Laws.{whole-bytes}
+use Rattle.image.proofs.Laws.{whole_bytes}
 use Rattle.operand.specs.Operand.{is_fraction_count, is_normalised}
-use Rattle.operand.proofs.Laws.{count-in, in_count, normalised-in, in-normalised}
+use Rattle.operand.proofs.Laws.{count-in, in_count, normalised_in, in_normalised}
 use Rattle.statements.specs.Terms.{IsPrecision, IsRightAt, IsSetPast, IsTailZero, IsFractionCount, IsNormalised}
 
 pub joined : {A B C : Type 0} → A ↔ B → B ↔ C → A ↔ C
@@ -74,55 +74,55 @@ broken true to from = (λ t. absurd t, λ f. f (to refl))
 broken false to from = (λ t a. clash (from a) refl, λ f. tt)
 
 -- k is a precision
-pub is-precision : (k : ℕ) → T (not (not (in_range k))) ↔ IsPrecision k
-is-precision k = kept (in_range k) (in-range k) (λ p. range-in k p.0 p.1)
+pub is_precision : (k : ℕ) → T (not (not (in_range k))) ↔ IsPrecision k
+is_precision k = kept (in_range k) (in-range k) (λ p. range_in k p.0 p.1)
 
-pub no-precision : (k : ℕ) → T (not (in_range k)) ↔ (IsPrecision k → ⊥)
-no-precision k = broken (in_range k) (in-range k) (λ p. range-in k p.0 p.1)
+pub no_precision : (k : ℕ) → T (not (in_range k)) ↔ (IsPrecision k → ⊥)
+no_precision k = broken (in_range k) (in-range k) (λ p. range_in k p.0 p.1)
 
 -- n is a count of fraction bits
-pub is-count : (n : ℕ) → T (not (not (is_fraction_count n))) ↔ IsFractionCount n
-is-count n = kept (is_fraction_count n) (count-in n) (λ c. in_count n c.0 c.1)
+pub is_count : (n : ℕ) → T (not (not (is_fraction_count n))) ↔ IsFractionCount n
+is_count n = kept (is_fraction_count n) (count-in n) (λ c. in_count n c.0 c.1)
 
-pub no-count : (n : ℕ) → T (not (is_fraction_count n)) ↔ (IsFractionCount n → ⊥)
-no-count n = broken (is_fraction_count n) (count-in n) (λ c. in_count n c.0 c.1)
+pub no_count : (n : ℕ) → T (not (is_fraction_count n)) ↔ (IsFractionCount n → ⊥)
+no_count n = broken (is_fraction_count n) (count-in n) (λ c. in_count n c.0 c.1)
 
 -- X is normalised
 pub is-normalised : (n X : ℕ) → T (not (not (is_normalised n X))) ↔ IsNormalised n X
-is-normalised n X = kept (is_normalised n X) (normalised-in n X) (λ o. in-normalised n X o.0 o.1)
+is-normalised n X = kept (is_normalised n X) (normalised_in n X) (λ o. in_normalised n X o.0 o.1)
 
-pub not-normalised : (n X : ℕ) → T (not (is_normalised n X)) ↔ (IsNormalised n X → ⊥)
-not-normalised n X = broken (is_normalised n X) (normalised-in n X) (λ o. in-normalised n X o.0 o.1)
+pub not_normalised : (n X : ℕ) → T (not (is_normalised n X)) ↔ (IsNormalised n X → ⊥)
+not_normalised n X = broken (is_normalised n X) (normalised_in n X) (λ o. in_normalised n X o.0 o.1)
 
 -- orders
 pub is_below : (a b : ℕ) → T (ltb a b) ↔ (a < b)
 is_below a b = (ltb→lt a b, lt→ltb a b)
 
-pub not-below : (a b : ℕ) → T (not (ltb a b)) ↔ (b ≤ a)
-not-below a b = (nltb→le a b, le→nltb a b)
+pub not_below : (a b : ℕ) → T (not (ltb a b)) ↔ (b ≤ a)
+not_below a b = (nltb→le a b, le→nltb a b)
 
 -- the word of node j is read and is wrong
 pub wrong_word : (k : ℕ) (s : List ℕ) (j : ℕ) → T (ltb j (2 ^ k) && is_wrong (plain k) s j) ↔ ((j < 2 ^ k) × (IsRightAt k s j → ⊥))
 wrong_word k s j = (to (ltb j (2 ^ k)) (is_wrong (plain k) s j) refl refl, from)
   where
     to : (a b : Bool) → ltb j (2 ^ k) ≡ a → is_wrong (plain k) s j ≡ b → T (a && b) → (j < 2 ^ k) × (IsRightAt k s j → ⊥)
-    to true true e d t = (ltb→lt j (2 ^ k) (passes (ltb j (2 ^ k)) e), λ r. clash d (right-not-wrong (plain k) s j r))
+    to true true e d t = (ltb→lt j (2 ^ k) (passes (ltb j (2 ^ k)) e), λ r. clash d (right_not_wrong (plain k) s j r))
     to true false e d t = absurd t
     to false b e d t = absurd t
 
     by : (b : Bool) → is_wrong (plain k) s j ≡ b → (IsRightAt k s j → ⊥) → T b
     by true e f = tt
-    by false e f = f (not-wrong (plain k) s j e)
+    by false e f = f (not_wrong (plain k) s j e)
 
     from : (j < 2 ^ k) × (IsRightAt k s j → ⊥) → T (ltb j (2 ^ k) && is_wrong (plain k) s j)
     from t = rw (lt-ltb j (2 ^ k) t.0) (by (is_wrong (plain k) s j) refl t.1)
 
-pub no-wrong-word : (k : ℕ) (s : List ℕ) (j : ℕ) → T (not (ltb j (2 ^ k) && is_wrong (plain k) s j)) ↔ (j < 2 ^ k → IsRightAt k s j)
-no-wrong-word k s j = (to, from)
+pub no_wrong_word : (k : ℕ) (s : List ℕ) (j : ℕ) → T (not (ltb j (2 ^ k) && is_wrong (plain k) s j)) ↔ (j < 2 ^ k → IsRightAt k s j)
+no_wrong_word k s j = (to, from)
   where
     by : (b : Bool) → is_wrong (plain k) s j ≡ b → T (not b) → IsRightAt k s j
     by true e t = absurd t
-    by false e t = not-wrong (plain k) s j e
+    by false e t = not_wrong (plain k) s j e
 
     to : T (not (ltb j (2 ^ k) && is_wrong (plain k) s j)) → j < 2 ^ k → IsRightAt k s j
     to t h = by (is_wrong (plain k) s j) refl (rw (lt-ltb j (2 ^ k) h) at t)
@@ -131,62 +131,62 @@ no-wrong-word k s j = (to, from)
     from f = not_T (ltb j (2 ^ k) && is_wrong (plain k) s j) (λ t. let w = (wrong_word k s j).0 t in w.1 (f w.0))
 
 -- the same as equations
-pub read-wrong : (k : ℕ) (s : List ℕ) (j : ℕ) → j < 2 ^ k → (IsRightAt k s j → ⊥) → (ltb j (2 ^ k) && is_wrong (plain k) s j) ≡ true
-read-wrong k s j h f = passed (ltb j (2 ^ k) && is_wrong (plain k) s j) ((wrong_word k s j).1 (h, f))
+pub read_wrong : (k : ℕ) (s : List ℕ) (j : ℕ) → j < 2 ^ k → (IsRightAt k s j → ⊥) → (ltb j (2 ^ k) && is_wrong (plain k) s j) ≡ true
+read_wrong k s j h f = passed (ltb j (2 ^ k) && is_wrong (plain k) s j) ((wrong_word k s j).1 (h, f))
 
 pub read_right : (k : ℕ) (s : List ℕ) (j : ℕ) → (j < 2 ^ k → IsRightAt k s j) → (ltb j (2 ^ k) && is_wrong (plain k) s j) ≡ false
-read_right k s j f = failed (ltb j (2 ^ k) && is_wrong (plain k) s j) ((no-wrong-word k s j).1 f)
+read_right k s j f = failed (ltb j (2 ^ k) && is_wrong (plain k) s j) ((no_wrong_word k s j).1 f)
 
 -- some word of the image is wrong, and none is
-pub some-wrong : (k : ℕ) (s : List ℕ) → T (ltb (first_wrong (plain k) s) (word_count k)) ↔ ((j : ℕ) × (j < 2 ^ k) × (IsRightAt k s j → ⊥))
-some-wrong k s = (to, from)
+pub some_wrong : (k : ℕ) (s : List ℕ) → T (ltb (first_wrong (plain k) s) (word_count k)) ↔ ((j : ℕ) × (j < 2 ^ k) × (IsRightAt k s j → ⊥))
+some_wrong k s = (to, from)
   where
     to : T (ltb (first_wrong (plain k) s) (word_count k)) → (j : ℕ) × (j < 2 ^ k) × (IsRightAt k s j → ⊥)
     to t =
         let h = ltb→lt (first_wrong (plain k) s) (word_count k) t in
-        (first_wrong (plain k) s, h, wrong-there (plain k) s h)
+        (first_wrong (plain k) s, h, wrong_there (plain k) s h)
 
     from : (j : ℕ) × (j < 2 ^ k) × (IsRightAt k s j → ⊥) → T (ltb (first_wrong (plain k) s) (word_count k))
     from w =
-        not-not (ltb (first_wrong (plain k) s) (word_count k))
-        (λ t. w.2 (right-before (plain k) s w.0 (omega (arith, w.1, nltb→le (first_wrong (plain k) s) (word_count k) t))))
+        not_not (ltb (first_wrong (plain k) s) (word_count k))
+        (λ t. w.2 (right_before (plain k) s w.0 (omega (arith, w.1, nltb→le (first_wrong (plain k) s) (word_count k) t))))
       where
-        not-not : (b : Bool) → (T (not b) → ⊥) → T b
-        not-not true f = tt
-        not-not false f = absurd (f tt)
+        not_not : (b : Bool) → (T (not b) → ⊥) → T b
+        not_not true f = tt
+        not_not false f = absurd (f tt)
 
-pub none-wrong : (k : ℕ) (s : List ℕ) → T (not (ltb (first_wrong (plain k) s) (word_count k))) ↔ ((j : ℕ) → j < 2 ^ k → IsRightAt k s j)
-none-wrong k s = (to, from)
+pub none_wrong : (k : ℕ) (s : List ℕ) → T (not (ltb (first_wrong (plain k) s) (word_count k))) ↔ ((j : ℕ) → j < 2 ^ k → IsRightAt k s j)
+none_wrong k s = (to, from)
   where
     to : T (not (ltb (first_wrong (plain k) s) (word_count k))) → (j : ℕ) → j < 2 ^ k → IsRightAt k s j
-    to t j h = right-before (plain k) s j (omega (arith, h, nltb→le (first_wrong (plain k) s) (word_count k) t))
+    to t j h = right_before (plain k) s j (omega (arith, h, nltb→le (first_wrong (plain k) s) (word_count k) t))
 
     from : ((j : ℕ) → j < 2 ^ k → IsRightAt k s j) → T (not (ltb (first_wrong (plain k) s) (word_count k)))
     from f = le→nltb (first_wrong (plain k) s) (word_count k) (omega (arith, all_right (plain k) s f))
 
 -- some byte of the tail is set, and none is
 module _ (k : ℕ) (s : List ℕ) (p : IsPrecision k) (bytes : Bytes s) where
-  pub some-past : T (ltb (first_past (plain k) s) (length s)) ↔ ((i : ℕ) × IsSetPast k s i)
-  some-past = (to, from)
+  pub some_past : T (ltb (first_past (plain k) s) (length s)) ↔ ((i : ℕ) × IsSetPast k s i)
+  some_past = (to, from)
     where
       to : T (ltb (first_past (plain k) s) (length s)) → (i : ℕ) × IsSetPast k s i
       to t =
           let h = ltb→lt (first_past (plain k) s) (length s) t in
-          let there = past-there (plain k) (whole-bytes k p.0) s h in
+          let there = past_there (plain k) (whole_bytes k p.0) s h in
           (first_past (plain k) s, (there.0, h, there.1))
 
       from : (i : ℕ) × IsSetPast k s i → T (ltb (first_past (plain k) s) (length s))
       from w =
           let i = w.1 in
           lt→ltb (first_past (plain k) s) (length s)
-          (⊎_elim (λ l. l) (λ g. absurd (i.2 (past-zero (plain k) (whole-bytes k p.0) s bytes w.0 i.0 (omega (arith, i.1, g)))))
+          (⊎_elim (λ l. l) (λ g. absurd (i.2 (past_zero (plain k) (whole_bytes k p.0) s bytes w.0 i.0 (omega (arith, i.1, g)))))
           (below_or_not (first_past (plain k) s) (length s)))
 
-  pub none-past : T (not (ltb (first_past (plain k) s) (length s))) ↔ IsTailZero k s
-  none-past = (to, from)
+  pub none_past : T (not (ltb (first_past (plain k) s) (length s))) ↔ IsTailZero k s
+  none_past = (to, from)
     where
       to : T (not (ltb (first_past (plain k) s) (length s))) → IsTailZero k s
-      to t i h l = past-zero (plain k) (whole-bytes k p.0) s bytes i h (omega (arith, l, nltb→le (first_past (plain k) s) (length s) t))
+      to t i h l = past_zero (plain k) (whole_bytes k p.0) s bytes i h (omega (arith, l, nltb→le (first_past (plain k) s) (length s) t))
 
       from : IsTailZero k s → T (not (ltb (first_past (plain k) s) (length s)))
-      from z = le→nltb (first_past (plain k) s) (length s) (omega (arith, past-none (plain k) (whole-bytes k p.0) s z))
+      from z = le→nltb (first_past (plain k) s) (length s) (omega (arith, past_none (plain k) (whole_bytes k p.0) s z))

@@ -8,37 +8,37 @@ use native.Mathlib.Omega.{arith}
 use lib.Pow.{pow_pos, pow_mono}
 use Rattle.quotient.specs.Quotient.{rounded_up}
 use Rattle.operand.specs.Operand.{cut_operand, cut_bits}
-use Rattle.operand.proofs.Laws.{cut-longer, normalised-longer, in_count}
+use Rattle.operand.proofs.Laws.{cut_longer, normalised_longer, in_count}
 use Rattle.interpolation.specs.Algorithm.{cut_reciprocal}
 use Rattle.interpolation.specs.Reciprocal.{reciprocal}
 use Rattle.interpolation.specs.Calls.{reciprocal_outcome}
 
 -- of the m bits b, the first 2k + 3 - n are among the first 2k + 3 fraction bits, and these are zero
 module _ (k n m X b : ℕ) (h : b < 2 ^ (m - (2 * k + 3 - n))) where
-  cut-same : cut_operand k (n + m) (X * 2 ^ m + b) ≡ cut_operand k n X
-  cut-same = cut-longer m X b (cut_bits k) n h
+  cut_same : cut_operand k (n + m) (X * 2 ^ m + b) ≡ cut_operand k n X
+  cut_same = cut_longer m X b (cut_bits k) n h
 
-  pub reciprocal-same : reciprocal k (n + m) (X * 2 ^ m + b) ≡ reciprocal k n X
-  reciprocal-same = ap (cut_reciprocal k) cut-same
+  pub reciprocal_same : reciprocal k (n + m) (X * 2 ^ m + b) ≡ reciprocal k n X
+  reciprocal_same = ap (cut_reciprocal k) cut_same
 
-  pub outcome-same : 1 ≤ n → n + m ≤ 63 → (s : List ℕ) → reciprocal_outcome k s (n + m) (X * 2 ^ m + b) ≡ reciprocal_outcome k s n X
-  outcome-same low most s =
+  pub outcome_same : 1 ≤ n → n + m ≤ 63 → (s : List ℕ) → reciprocal_outcome k s (n + m) (X * 2 ^ m + b) ≡ reciprocal_outcome k s n X
+  outcome_same low most s =
       let fewer : m - (2 * k + 3 - n) ≤ m = omega arith in
       let bits : b < 2 ^ m = omega (arith, h, pow_mono fewer) in
-      rw (in_count (n + m) (omega (arith, low)) most, in_count n low (omega (arith, most)), normalised-longer m X b n bits, cut-same)
+      rw (in_count (n + m) (omega (arith, low)) most, in_count n low (omega (arith, most)), normalised_longer m X b n bits, cut_same)
 
 -- zeros
 module _ (k n m X : ℕ) where
   none : 0 < 2 ^ (m - (2 * k + 3 - n))
   none = pow_pos (m - (2 * k + 3 - n))
 
-  pub reciprocal-zeros : reciprocal k (n + m) (X * 2 ^ m) ≡ reciprocal k n X
-  reciprocal-zeros = rw (add-zero (X * 2 ^ m)) at (reciprocal-same k n m X 0 none)
+  pub reciprocal_zeros : reciprocal k (n + m) (X * 2 ^ m) ≡ reciprocal k n X
+  reciprocal_zeros = rw (add-zero (X * 2 ^ m)) at (reciprocal_same k n m X 0 none)
 
-  pub outcome-zeros : 1 ≤ n → n + m ≤ 63 → (s : List ℕ) → reciprocal_outcome k s (n + m) (X * 2 ^ m) ≡ reciprocal_outcome k s n X
-  outcome-zeros low most s = rw (add-zero (X * 2 ^ m)) at (outcome-same k n m X 0 none low most s)
+  pub outcome_zeros : 1 ≤ n → n + m ≤ 63 → (s : List ℕ) → reciprocal_outcome k s (n + m) (X * 2 ^ m) ≡ reciprocal_outcome k s n X
+  outcome_zeros low most s = rw (add-zero (X * 2 ^ m)) at (outcome_same k n m X 0 none low most s)
 
 -- a one, by computation
-pub of-64-and-129 : (reciprocal 2 6 64 ≡ 32) × (reciprocal 2 (6 + 1) (64 * 2 ^ 1 + 1) ≡ 31)
+pub of_64_and_129 : (reciprocal 2 6 64 ≡ 32) × (reciprocal 2 (6 + 1) (64 * 2 ^ 1 + 1) ≡ 31)
 unfolding rounded_up
-of-64-and-129 = (refl, refl)
+of_64_and_129 = (refl, refl)

@@ -9,7 +9,7 @@ use lib.ListN.{drop}
 use lib.Pow.{pow_mono}
 use Rattle.precision.specs.Precision.{image_length}
 use Rattle.packing.specs.Writing.{finish_leaves, writer_before, bytes_before}
-use Rattle.packing.proofs.Written.{place-before, words-finished}
+use Rattle.packing.proofs.Written.{place-before, words_finished}
 use Rattle.nodes.specs.Nodes.{node}
 use Rattle.image.specs.Image.{image}
 use Rattle.statements.specs.Terms.{IsPrecision, IsLongEnough}
@@ -30,4 +30,4 @@ module _ (k : ℕ) (p : IsPrecision k) where
 
   pub finished : (s : List ℕ) → IsLongEnough k s
       → finish_leaves (bytes_before (2 * k + 2) (node k) s (2 ^ k)) (writer_before (2 * k + 2) (node k) (2 ^ k)) ≡ image k ++ drop (image_length k) s
-  finished s l = words-finished (2 * k + 2) (node k) s (2 ^ k) (omega (arith, p.1)) (few (2 ^ k) (omega arith)) l
+  finished s l = words_finished (2 * k + 2) (node k) s (2 ^ k) (omega (arith, p.1)) (few (2 ^ k) (omega arith)) l

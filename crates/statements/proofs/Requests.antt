@@ -11,51 +11,51 @@ use Rattle.precision.specs.Precision.{in_range}
 use Rattle.decimal.specs.Decimal.{decimal, is_digits, decimal_value}
 use Rattle.decimal.specs.declared.Reading.{Reading}
 use Rattle.decimal.specs.declared.Reading.TheVariants.{Number, Other}
-use Rattle.decimal.proofs.Laws.{decimal-digits, length-decimal-below, value-decimal, is_all, value-below}
+use Rattle.decimal.proofs.Laws.{decimal_digits, length_decimal_below, value-decimal, is_all, value_below}
 use Rattle.lines.specs.Lines.{line_feed, line_reading, refused_text}
-use Rattle.lines.proofs.ReadLines.{digits-read, read-digits}
+use Rattle.lines.proofs.ReadLines.{digits_read, read_digits}
 use Rattle.table_text.specs.TableText.{precision_of, lines, header, table_of, table_text}
-use Rattle.table_text.proofs.Requests.{request-found, request-prefix}
-use Rattle.table_text.proofs.LineLaws.{text-refused, text-table}
+use Rattle.table_text.proofs.Requests.{request_found, request_prefix}
+use Rattle.table_text.proofs.LineLaws.{text-refused, text_table}
 use Rattle.statements.specs.Terms.{IsPrecision}
-use Rattle.statements.proofs.Iff.{failed, no-precision}
+use Rattle.statements.proofs.Iff.{failed, no_precision}
 
 -- the text, by whether the precision is one
-pub text_in-range : (s : List ℕ) → in_range (precision_of s) ≡ true → table_text s ≡ header (precision_of s) ++ lines (precision_of s) (2 ^ precision_of s + 1)
+pub text_in_range : (s : List ℕ) → in_range (precision_of s) ≡ true → table_text s ≡ header (precision_of s) ++ lines (precision_of s) (2 ^ precision_of s + 1)
 unfolding table_of
-text_in-range s e = text-table s e
+text_in_range s e = text_table s e
 
-pub text_out-of-range : (s : List ℕ) → (IsPrecision (precision_of s) → ⊥) → table_text s ≡ refused_text 1
-text_out-of-range s f = text-refused s (failed (in_range (precision_of s)) ((no-precision (precision_of s)).1 f))
+pub text_out_of_range : (s : List ℕ) → (IsPrecision (precision_of s) → ⊥) → table_text s ≡ refused_text 1
+text_out_of_range s f = text-refused s (failed (in_range (precision_of s)) ((no_precision (precision_of s)).1 f))
 
 -- digits and a line feed are a request
-pub request-of-digits : (d : List ℕ) → is_digits d ≡ true → length d ≤ 9 → precision_of (d ++ line_feed ∷ []) ≡ decimal_value d
-request-of-digits d e h =
-    let small : decimal_value d < 2 ^ 64 = omega (arith, value-below d (is_all d e), pow-le-pow_right {n = 10} (omega arith) h) in
-    request-found (d ++ line_feed ∷ []) (digits-read 9 d e h small)
+pub request_of_digits : (d : List ℕ) → is_digits d ≡ true → length d ≤ 9 → precision_of (d ++ line_feed ∷ []) ≡ decimal_value d
+request_of_digits d e h =
+    let small : decimal_value d < 2 ^ 64 = omega (arith, value_below d (is_all d e), pow-le-pow_right {n = 10} (omega arith) h) in
+    request_found (d ++ line_feed ∷ []) (digits_read 9 d e h small)
 
-pub request-of-number : (n : ℕ) → n < 10 ^ 9 → precision_of (decimal n ++ line_feed ∷ []) ≡ n
-request-of-number n h =
-    request-of-digits (decimal n) (decimal-digits n) (length-decimal-below 9 n (omega arith) h) ∙ value-decimal n (omega arith)
+pub request_of_number : (n : ℕ) → n < 10 ^ 9 → precision_of (decimal n ++ line_feed ∷ []) ≡ n
+request_of_number n h =
+    request_of_digits (decimal n) (decimal_digits n) (length_decimal_below 9 n (omega arith) h) ∙ value-decimal n (omega arith)
 
 -- and nothing else is one: what counts as another precision than 0 is a request for it
-pub request-is-digits : (s : List ℕ) → (precision_of s ≡ 0 → ⊥) → (d : List ℕ) × (is_digits d ≡ true) × (length d ≤ 9) × (s ≡ d ++ line_feed ∷ []) × (precision_of s ≡ decimal_value d)
-request-is-digits s f = go (line_reading s 9) refl
+pub request_is_digits : (s : List ℕ) → (precision_of s ≡ 0 → ⊥) → (d : List ℕ) × (is_digits d ≡ true) × (length d ≤ 9) × (s ≡ d ++ line_feed ∷ []) × (precision_of s ≡ decimal_value d)
+request_is_digits s f = go (line_reading s 9) refl
   where
     go : (r : Reading) → line_reading s 9 ≡ r → (d : List ℕ) × (is_digits d ≡ true) × (length d ≤ 9) × (s ≡ d ++ line_feed ∷ []) × (precision_of s ≡ decimal_value d)
     go (Number v) e =
-        let n = read-digits s 9 v e in
-        (n.0, n.1, n.2, n.3, request-found s e ∙ sym n.4)
-    go Other e = absurd (f (request-found s e))
+        let n = read_digits s 9 v e in
+        (n.0, n.1, n.2, n.3, request_found s e ∙ sym n.4)
+    go Other e = absurd (f (request_found s e))
 
 -- so any other input is refused
-pub text-of-other : (s : List ℕ) → ((d : List ℕ) → is_digits d ≡ true → length d ≤ 9 → s ≡ d ++ line_feed ∷ [] → ⊥) → table_text s ≡ refused_text 1
-text-of-other s f = go (line_reading s 9) refl
+pub text_of_other : (s : List ℕ) → ((d : List ℕ) → is_digits d ≡ true → length d ≤ 9 → s ≡ d ++ line_feed ∷ [] → ⊥) → table_text s ≡ refused_text 1
+text_of_other s f = go (line_reading s 9) refl
   where
     go : (r : Reading) → line_reading s 9 ≡ r → table_text s ≡ refused_text 1
-    go (Number v) e = let n = read-digits s 9 v e in absurd (f n.0 n.1 n.2 n.3)
-    go Other e = text-refused s (ap in_range (request-found s e))
+    go (Number v) e = let n = read_digits s 9 v e in absurd (f n.0 n.1 n.2 n.3)
+    go Other e = text-refused s (ap in_range (request_found s e))
 
-pub text-of-prefix : (n : ℕ) (s : List ℕ) → 11 ≤ n → table_text (take n s) ≡ table_text s
+pub text_of_prefix : (n : ℕ) (s : List ℕ) → 11 ≤ n → table_text (take n s) ≡ table_text s
 unfolding table_text
-text-of-prefix n s h = ap (λ (k : ℕ). cond (in_range k) (table_of k) (refused_text 1)) (request-prefix n s h)
+text_of_prefix n s h = ap (λ (k : ℕ). cond (in_range k) (table_of k) (refused_text 1)) (request_prefix n s h)

@@ -107,9 +107,9 @@ reciprocal_examples =
 
 -- R and P are those of X, and the call from the image gives R
 pub record ReciprocalHolds (e : ReciprocalExample) : Type 0 where
-  pub is-R : reciprocal e.from.k e.n e.X ≡ e.R
+  pub is_R : reciprocal e.from.k e.n e.X ≡ e.R
   pub given : reciprocal_outcome e.from.k e.from.bytes e.n e.X ≡ served e.R
-  pub is-P : Each (λ (P : ℕ). cut_product_sum e.from.k (cut_operand e.from.k e.n e.X) ≡ P) e.P
+  pub is_P : Each (λ (P : ℕ). cut_product_sum e.from.k (cut_operand e.from.k e.n e.X) ≡ P) e.P
 
 -- an operand that is turned back from an image above, and by which number
 pub record RefusedExample : Type 0 where

@@ -6,10 +6,10 @@ use Rattle.lines.specs.Lines.{line_reading}
 use Rattle.table_text.specs.TableText.{precision_of}
 
 -- nine digits are a request, leading zeros allowed; ten are not
-nine-digits : precision_of (48 ∷ 48 ∷ 48 ∷ 48 ∷ 48 ∷ 48 ∷ 48 ∷ 49 ∷ 50 ∷ 10 ∷ []) ≡ 12
+nine_digits : precision_of (48 ∷ 48 ∷ 48 ∷ 48 ∷ 48 ∷ 48 ∷ 48 ∷ 49 ∷ 50 ∷ 10 ∷ []) ≡ 12
 unfolding precision_of line_reading
-nine-digits = refl
+nine_digits = refl
 
-ten-digits : precision_of (48 ∷ 48 ∷ 48 ∷ 48 ∷ 48 ∷ 48 ∷ 48 ∷ 48 ∷ 49 ∷ 50 ∷ 10 ∷ []) ≡ 0
+ten_digits : precision_of (48 ∷ 48 ∷ 48 ∷ 48 ∷ 48 ∷ 48 ∷ 48 ∷ 48 ∷ 49 ∷ 50 ∷ 10 ∷ []) ≡ 0
 unfolding precision_of line_reading
-ten-digits = refl
+ten_digits = refl

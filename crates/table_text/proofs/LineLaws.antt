@@ -31,15 +31,15 @@ module _ (k j : ℕ) (served : in_range k ≡ true) where
   line_word {c} {w} h p q = rw (q, p, value_in (omega arith), ne_eqb j (2 ^ k) (omega arith))
 
   -- the line of the last node
-  pub line-last : {c : ℕ} → j ≡ 2 ^ k → c ≡ node_or_0 k j → field j space ++ field c space ++ hyphen_text ≡ line k j
+  pub line_last : {c : ℕ} → j ≡ 2 ^ k → c ≡ node_or_0 k j → field j space ++ field c space ++ hyphen_text ≡ line k j
   unfolding line
-  line-last {c} h p = rw (p, value_in (omega arith), eq-eqb j (2 ^ k) h)
+  line_last {c} h p = rw (p, value_in (omega arith), eq-eqb j (2 ^ k) h)
 
 -- the text of an input, by whether the precision that it requests is in range
 pub text-refused : (s : List ℕ) → in_range (precision_of s) ≡ false → table_text s ≡ refused_text 1
 unfolding table_text
 text-refused s e = rw e
 
-pub text-table : (s : List ℕ) → in_range (precision_of s) ≡ true → table_text s ≡ table_of (precision_of s)
+pub text_table : (s : List ℕ) → in_range (precision_of s) ≡ true → table_text s ≡ table_of (precision_of s)
 unfolding table_text
-text-table s e = rw e
+text_table s e = rw e

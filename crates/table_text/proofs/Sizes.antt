@@ -11,7 +11,7 @@ use lib.Dec.{leb, eqb}
 use lib.ListN.{length, length-append}
 use lib.Pow.{pow_pos, pow_mono}
 use Rattle.lines.specs.Lines.{line_feed, space, field, refused_text}
-use Rattle.lines.proofs.Sizes.{field-most, field_below, refused-most}
+use Rattle.lines.proofs.Sizes.{field_most, field_below, refused_most}
 use Rattle.precision.specs.Precision.{in_range, word_width, image_length}
 use Rattle.precision.proofs.Range.{in-range}
 use Rattle.quotient.specs.Quotient.{rounded_up}
@@ -23,12 +23,12 @@ use Rattle.table_text.specs.TableText.{word_field, line, lines, header, table_of
 pub count_most : (k : ℕ) → in_range k ≡ true → 2 ^ k ≤ 4096
 count_most k e = pow_mono {i = k} {j = 12} (in-range k e).1
 
-pub columns-most : (j c : ℕ) → length (field j space ++ field c space) ≤ 42
-columns-most j c = rw length-append (omega (arith, field-most j space, field-most c space))
+pub columns_most : (j c : ℕ) → length (field j space ++ field c space) ≤ 42
+columns_most j c = rw length-append (omega (arith, field_most j space, field_most c space))
 
 -- a node's value is at most what is divided for it
-node-below : (k j : ℕ) → in_range k ≡ true → node k j < 10 ^ 12
-node-below k j e =
+node_below : (k j : ℕ) → in_range k ≡ true → node k j < 10 ^ 12
+node_below k j e =
     let top : 2 ^ (3 * k + 3) ≤ 2 ^ 39 = pow_mono {i = 3 * k + 3} {j = 39} (omega (arith, (in-range k e).1)) in
     let one : rounded_up (2 ^ (3 * k + 3)) 1 ≡ 2 ^ (3 * k + 3) = rw mul-one at (exact (2 ^ (3 * k + 3)) 1 (omega arith)) in
     omega (arith, top, one, antitone (2 ^ (3 * k + 3)) {i = 1} {i' = 2 ^ k + j} (omega arith) (omega (arith, pow_pos k)))
@@ -37,35 +37,35 @@ word_below : (k j : ℕ) → in_range k ≡ true → stored_word k j < 10 ^ 8
 word_below k j e =
     omega (arith, mod-lt (node k j) (pow_pos (word_width k)), pow_mono {i = word_width k} {j = 26} (omega (arith, (in-range k e).1)))
 
-word-most : (k j : ℕ) → in_range k ≡ true → length (word_field k j) ≤ 9
-word-most k j e = go (eqb j (2 ^ k))
+word_most : (k j : ℕ) → in_range k ≡ true → length (word_field k j) ≤ 9
+word_most k j e = go (eqb j (2 ^ k))
   where
     go : (x : Bool) → length (cond x hyphen_text (field (stored_word k j) line_feed)) ≤ 9
     go true = omega arith
     go false = field_below 8 (stored_word k j) line_feed (omega arith) (word_below k j e)
 
 -- the line of a node has at most 27 bytes
-pub line-most : (k j : ℕ) → in_range k ≡ true → j ≤ 2 ^ k → length (line k j) ≤ 27
+pub line_most : (k j : ℕ) → in_range k ≡ true → j ≤ 2 ^ k → length (line k j) ≤ 27
 unfolding line
-line-most k j e h =
+line_most k j e h =
     rw (length-append, length-append)
     (omega (
       arith,
       field_below 4 j space (omega arith) (omega (arith, count_most k e)),
-      field_below 12 (node k j) space (omega arith) (node-below k j e),
-      word-most k j e,
+      field_below 12 (node k j) space (omega arith) (node_below k j e),
+      word_most k j e,
     ))
 
 -- and the lines of n nodes 27 for each
-pub lines-most : (k n : ℕ) → in_range k ≡ true → n ≤ 2 ^ k + 1 → length (lines k n) ≤ 27 * n
+pub lines_most : (k n : ℕ) → in_range k ≡ true → n ≤ 2 ^ k + 1 → length (lines k n) ≤ 27 * n
 unfolding lines
-lines-most k zero e h = omega arith
-lines-most k (suc n) e h = rw length-append (omega (arith, lines-most k n e (omega arith), line-most k n e (omega arith)))
+lines_most k zero e h = omega arith
+lines_most k (suc n) e h = rw length-append (omega (arith, lines_most k n e (omega arith), line_most k n e (omega arith)))
 
 -- the first line has at most 32 bytes
-pub header-most : (k : ℕ) → in_range k ≡ true → length (header k) ≤ 32
+pub header_most : (k : ℕ) → in_range k ≡ true → length (header k) ≤ 32
 unfolding header
-header-most k e =
+header_most k e =
     let r = in-range k e in
     let bytes : image_length k < 10 ^ 5 = omega (arith, mul-le-mul (count_most k e) (wide r)) in
     simp length-append
@@ -75,21 +75,21 @@ header-most k e =
     wide r = omega (arith, r.1)
 
 -- every text fits the room that is asked for
-pub text-fits : (s : List ℕ) → length (table_text s) ≤ longest_text
+pub text_fits : (s : List ℕ) → length (table_text s) ≤ longest_text
 unfolding table_text table_of
-text-fits s = go (in_range (precision_of s)) refl
+text_fits s = go (in_range (precision_of s)) refl
   where
     go : (x : Bool) → in_range (precision_of s) ≡ x → length (cond x (table_of (precision_of s)) (refused_text 1)) ≤ longest_text
     go true e =
         let k = precision_of s in
-        rw length-append (omega (arith, header-most k e, count_most k e, lines-most k (2 ^ k + 1) e (omega arith)))
-    go false e = omega (arith, refused-most 1)
+        rw length-append (omega (arith, header_most k e, count_most k e, lines_most k (2 ^ k + 1) e (omega arith)))
+    go false e = omega (arith, refused_most 1)
 
 -- so what is printed lies within the buffer
-pub printed-within : (input s : List ℕ) {r : ℕ} → r ≡ printed_length input s → r ≤ length s
+pub printed_within : (input s : List ℕ) {r : ℕ} → r ≡ printed_length input s → r ≤ length s
 unfolding printed_length
-printed-within input s p = omega (arith, p, go (leb longest_text (length s)) refl)
+printed_within input s p = omega (arith, p, go (leb longest_text (length s)) refl)
   where
     go : (x : Bool) → leb longest_text (length s) ≡ x → cond x (length (table_text input)) 0 ≤ length s
-    go true e = omega (arith, text-fits input, leb-true longest_text (length s) e)
+    go true e = omega (arith, text_fits input, leb-true longest_text (length s) e)
     go false e = omega arith

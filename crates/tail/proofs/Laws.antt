@@ -19,54 +19,54 @@ module _ (b : ℕ) (s : List ℕ) (i : ℕ) where
   pub bits_none : bits_from b s i ≡ 0 → has_one_from b s i ≡ false
   bits_none e = ap not (eq-eqb (bits_from b s i) 0 e)
 
-  pub none-bits : has_one_from b s i ≡ false → bits_from b s i ≡ 0
-  none-bits e = eqb-true (bits_from b s i) 0 (not-false (eqb (bits_from b s i) 0) e)
+  pub none_bits : has_one_from b s i ≡ false → bits_from b s i ≡ 0
+  none_bits e = eqb-true (bits_from b s i) 0 (not-false (eqb (bits_from b s i) 0) e)
 
-  pub bits-one : (bits_from b s i ≡ 0 → ⊥) → has_one_from b s i ≡ true
-  bits-one f = ap not (ne_eqb (bits_from b s i) 0 f)
+  pub bits_one : (bits_from b s i ≡ 0 → ⊥) → has_one_from b s i ≡ true
+  bits_one f = ap not (ne_eqb (bits_from b s i) 0 f)
 
   -- a byte that ends before bit b has none of them
-  pub byte-before : 8 * i + 8 ≤ b → has_one_from b s i ≡ false
-  byte-before h = bits_none (ap (λ (m : ℕ). get_or s i 0 % 2 ^ m) none ∙ mod-one (get_or s i 0))
+  pub byte_before : 8 * i + 8 ≤ b → has_one_from b s i ≡ false
+  byte_before h = bits_none (ap (λ (m : ℕ). get_or s i 0 % 2 ^ m) none ∙ mod-one (get_or s i 0))
     where
       none : 8 - (b - 8 * i) ≡ 0
       none = omega arith
 
   -- and one that starts there or later has all eight
-  pub byte-from : b ≤ 8 * i → bits_from b s i ≡ get_or s i 0 % 256
-  byte-from h = ap (λ (m : ℕ). get_or s i 0 % 2 ^ m) all
+  pub byte_from : b ≤ 8 * i → bits_from b s i ≡ get_or s i 0 % 256
+  byte_from h = ap (λ (m : ℕ). get_or s i 0 % 2 ^ m) all
     where
       all : 8 - (b - 8 * i) ≡ 8
       all = omega arith
 
-  byte-whole : b ≤ 8 * i → get_or s i 0 < 256 → bits_from b s i ≡ get_or s i 0
-  byte-whole h l = byte-from h ∙ mod-eq_of_lt l
+  byte_whole : b ≤ 8 * i → get_or s i 0 < 256 → bits_from b s i ≡ get_or s i 0
+  byte_whole h l = byte_from h ∙ mod-eq_of_lt l
 
   -- a zero byte has no ones at all
-  pub byte-zero : get_or s i 0 ≡ 0 → has_one_from b s i ≡ false
-  byte-zero e = bits_none (ap (λ (x : ℕ). x % 2 ^ (8 - (b - 8 * i))) e ∙ zero-mod (2 ^ (8 - (b - 8 * i))))
+  pub byte_zero : get_or s i 0 ≡ 0 → has_one_from b s i ≡ false
+  byte_zero e = bits_none (ap (λ (x : ℕ). x % 2 ^ (8 - (b - 8 * i))) e ∙ zero-mod (2 ^ (8 - (b - 8 * i))))
 
   -- so a byte behind bit b is zero exactly where it has none
-  pub none-zero : b ≤ 8 * i → get_or s i 0 < 256 → has_one_from b s i ≡ false → get_or s i 0 ≡ 0
-  none-zero h l e = sym (byte-whole h l) ∙ none-bits e
+  pub none_zero : b ≤ 8 * i → get_or s i 0 < 256 → has_one_from b s i ≡ false → get_or s i 0 ≡ 0
+  none_zero h l e = sym (byte_whole h l) ∙ none_bits e
 
   -- a byte that is set, not zero, has a one, and the other way round
-  pub set-one : b ≤ 8 * i → get_or s i 0 < 256 → (get_or s i 0 ≡ 0 → ⊥) → has_one_from b s i ≡ true
-  set-one h l f = bits-one (λ e. f (sym (byte-whole h l) ∙ e))
+  pub set_one : b ≤ 8 * i → get_or s i 0 < 256 → (get_or s i 0 ≡ 0 → ⊥) → has_one_from b s i ≡ true
+  set_one h l f = bits_one (λ e. f (sym (byte_whole h l) ∙ e))
 
   pub one_set : has_one_from b s i ≡ true → get_or s i 0 ≡ 0 → ⊥
-  one_set t e = clash t (byte-zero e)
+  one_set t e = clash t (byte_zero e)
 
 -- zero bytes, and then zero bytes
 module _ (s : List ℕ) (a b : ℕ) where
-  pub zero-none : b ≤ a → IsZero s a b
-  zero-none h i f l = absurd (omega (arith, h, f, l))
+  pub zero_none : b ≤ a → IsZero s a b
+  zero_none h i f l = absurd (omega (arith, h, f, l))
 
-  pub zero-then : (c : ℕ) → IsZero s a b → IsZero s b c → IsZero s a c
-  zero-then c z y i f h = ⊎_elim (λ l. z i f l) (λ g. y i g h) (below_or_not i b)
+  pub zero_then : (c : ℕ) → IsZero s a b → IsZero s b c → IsZero s a c
+  zero_then c z y i f h = ⊎_elim (λ l. z i f l) (λ g. y i g h) (below_or_not i b)
 
-  pub zero-next : IsZero s a b → get_or s b 0 ≡ 0 → IsZero s a (b + 1)
-  zero-next z e = zero-then (b + 1) z (λ i f h. ap (λ (x : ℕ). get_or s x 0) (here i f h) ∙ e)
+  pub zero_next : IsZero s a b → get_or s b 0 ≡ 0 → IsZero s a (b + 1)
+  zero_next z e = zero_then (b + 1) z (λ i f h. ap (λ (x : ℕ). get_or s x 0) (here i f h) ∙ e)
     where
       here : (i : ℕ) → b ≤ i → i < b + 1 → i ≡ b
       here i f h = omega (arith, f, h)

@@ -6,7 +6,7 @@ use Prim.Native.Nat.{ℕ, zero, suc, ◌+◌, ◌-◌, ◌≤◌, ◌<◌}
 use native.Mathlib.Omega.{arith}
 use lib.ListN.{length, take, drop, set, replicate-append-replicate, length-append, length-replicate, length-take, take-append-drop, drop_of_length-le}
 use Rattle.packing.specs.Packing.{Bytes}
-use Rattle.packing.proofs.Storing.{write-next}
+use Rattle.packing.proofs.Storing.{write_next}
 use Rattle.tail.specs.Tail.{zeros}
 use Rattle.tail.specs.Inner.{cleared_from}
 
@@ -32,9 +32,9 @@ module _ (n : ℕ) (s : List ℕ) where
       none : 0 ≡ n - n
       none = omega arith
 
-  pub clear-more : (at : ℕ) → n ≤ at → at < length s → set (cleared_to n at s) at 0 ≡ cleared_to n (at + 1) s
-  clear-more at l h =
-      write-next (take n s ++ zeros (at - n)) s at 0
+  pub clear_more : (at : ℕ) → n ≤ at → at < length s → set (cleared_to n at s) at 0 ≡ cleared_to n (at + 1) s
+  clear_more at l h =
+      write_next (take n s ++ zeros (at - n)) s at 0
       (length-append (take n s) (zeros (at - n)) ∙ omega (arith, length-take n s, length-zeros (at - n))) h
       ∙ ap (λ (t : List ℕ). t ++ drop (at + 1) s)
       (append_assoc (take n s) (zeros (at - n)) (0 ∷ [])
@@ -44,8 +44,8 @@ module _ (n : ℕ) (s : List ℕ) where
       next = omega arith
 
   -- up to the end
-  pub clear-all : (at : ℕ) → n ≤ at → length s ≤ at → at ≤ n + (length s - n) → cleared_to n at s ≡ cleared_from n s
-  clear-all at l h m =
+  pub clear_all : (at : ℕ) → n ≤ at → length s ≤ at → at ≤ n + (length s - n) → cleared_to n at s ≡ cleared_from n s
+  clear_all at l h m =
       ap (λ (t : List ℕ). (take n s ++ zeros (at - n)) ++ t) (drop_of_length-le s h)
       ∙ append-nil (take n s ++ zeros (at - n))
       ∙ ap (λ (m : ℕ). take n s ++ zeros m) whole

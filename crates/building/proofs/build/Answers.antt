@@ -12,17 +12,17 @@ use lib.Pow.{pow_mono, pow_pos}
 use lib.Dec.{eqb}
 use Rattle.packing.specs.Packing.{bytes_taken}
 use Rattle.packing.specs.Writing.{finish_leaves, writer_before, bytes_before}
-use Rattle.packing.proofs.Written.{words-finished}
+use Rattle.packing.proofs.Written.{words_finished}
 use Rattle.answers.specs.Refusal.{Outcome}
 use Rattle.answers.specs.Answer.{done}
 use Rattle.nodes.specs.Inner.{quotients_of}
 use Rattle.nodes.specs.declared.Quotients.{Quotients}
 use Rattle.tail.specs.Inner.{cleared_from}
 use Rattle.layout.specs.Layout.{image_of, length_of, rom_of}
-use Rattle.layout.proofs.Rom.{rom-written}
+use Rattle.layout.proofs.Rom.{rom_written}
 use Rattle.image.specs.Image.{plain}
 use Rattle.image.specs.Inner.{refusal_number, quotients, layout_of}
-use Rattle.image.proofs.Limits.{ImageKept, limit-passes, limit-kept}
+use Rattle.image.proofs.Limits.{ImageKept, limit_passes, limit_kept}
 use Rattle.building.specs.Inner.{CanFill}
 use Rattle.building.proofs.build.Goals as goal
 
@@ -44,7 +44,7 @@ pub fill-w-requires : goal.fill-w-requires
 fill-w-requires c =
     let k = c.args.k.0 in
     let s = c.args.image.now in
-    let ok : ImageKept k s = limit-kept k s (sym c.refusal_number-number.ensures ∙ c.if-number-ne0.false) in
+    let ok : ImageKept k s = limit_kept k s (sym c.refusal_number-number.ensures ∙ c.if-number-ne0.false) in
     rw (c.table.ensures ∙ ok.numbers) (can-fill k s ok)
 
 -- what the builder leaves of s by its answer
@@ -55,7 +55,7 @@ leaves k s o = cond (eqb o.number 0) (rom_of (plain k) (length s)) s
 finished : (t : Quotients) (s : List ℕ) → CanFill t (length s)
     → finish_leaves (bytes_before t.width (quotients t) s t.count) (writer_before t.width (quotients t) t.count)
     ≡ image_of (layout_of t) ++ drop (length_of (layout_of t)) s
-finished t s ok = words-finished t.width (quotients t) s t.count ok.wide (omega (arith, mul-le-mul few ok.wide)) ok.room
+finished t s ok = words_finished t.width (quotients t) s t.count ok.wide (omega (arith, mul-le-mul few ok.wide)) ok.room
   where
     few : t.count ≤ 4294967296
     few = omega (arith, ok.few)
@@ -66,16 +66,16 @@ returns c =
     let s = c.args.image.now in
     let t = c.table.result in
     let limit : refusal_number k (length s) ≡ 0 = sym c.refusal_number-number.ensures ∙ c.if-number-ne0.false in
-    let ok : ImageKept k s = limit-kept k s limit in
+    let ok : ImageKept k s = limit_kept k s limit in
     let table : t ≡ quotients_of k = c.table.ensures ∙ ok.numbers in
     let past : c.finish-past.result ≡ length_of (layout_of t) = c.finish-past.ensures.value ∙ ap bytes_taken c.fill-w.ensures.place_after in
     let words = c.finish-past.ensures.image_after ∙ ap₂ finish_leaves c.fill-w.ensures.bytes c.fill-w.ensures.writer in
     record {
-      value = ap done (sym (limit-passes k s [] 0 limit));
+      value = ap done (sym (limit_passes k s [] 0 limit));
       image_after =
           c.clear.ensures
           ∙ ap₂ cleared_from past (words ∙ finished t s (rw table (can-fill k s ok)))
           ∙ ap (λ (t : Quotients). cleared_from (length_of (layout_of t)) (image_of (layout_of t) ++ drop (length_of (layout_of t)) s)) table
-          ∙ rom-written (plain k) s ok.long
-          ∙ sym (ap (leaves k s) (limit-passes k s [] 0 limit));
+          ∙ rom_written (plain k) s ok.long
+          ∙ sym (ap (leaves k s) (limit_passes k s [] 0 limit));
     }

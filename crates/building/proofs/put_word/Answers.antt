@@ -7,7 +7,7 @@ use native.Mathlib.Omega.{arith}
 use lib.ListN.{length}
 use Rattle.packing.specs.Writing.{taken_in, put_writer, put_leaves}
 use Rattle.packing.specs.declared.writing.Writer.{Writer}
-use Rattle.packing.proofs.Written.{put-taken}
+use Rattle.packing.proofs.Written.{put_taken}
 use Rattle.quotient.specs.Quotient.{rounded_up}
 use Rattle.building.proofs.Filling.{more}
 use Rattle.building.proofs.put_word.Goals as goal
@@ -27,7 +27,7 @@ returns c =
     let bits : t.numerator % 2 ^ 63 ≡ t.numerator = mod-eq_of_lt (omega (arith, ok.exact)) in
     let word = c.settled.ensures ∙ ap (λ (m : ℕ). rounded_up m a.i) bits in
     let room : a.w.place + t.width ≤ 8 * length s = omega (arith, at, grows, mul-le-mul_right t.width upto, ok.room) in
-    let taken = put-taken s a.w t.width (rounded_up t.numerator a.i) ok.wide room in
+    let taken = put_taken s a.w t.width (rounded_up t.numerator a.i) ok.wide room in
     let after : put.result ≡ taken_in a.w t.width (rounded_up t.numerator a.i) = put.ensures.value ∙ ap (put_writer s a.w t.width) word ∙ taken.0 in
     record {
       writer = after;

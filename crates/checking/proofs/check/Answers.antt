@@ -10,22 +10,22 @@ use lib.ListN.{length}
 use lib.Pow.{pow_mono}
 use Rattle.nodes.specs.Inner.{quotients_of, quotients_or_0}
 use Rattle.nodes.specs.declared.Quotients.{Quotients}
-use Rattle.nodes.proofs.Nodes.{decode-most, numerator-whole, word-judged}
+use Rattle.nodes.proofs.Nodes.{decode_most, numerator_whole, word_judged}
 use Rattle.answers.specs.Answer.{done}
 use Rattle.layout.specs.Layout.{first_wrong, first_past}
 use Rattle.image.specs.Image.{plain}
 use Rattle.image.specs.Calls.{check_outcome}
 use Rattle.image.specs.Inner.{refusal_number, own_bytes, layout_of}
-use Rattle.image.proofs.Checks.{check-wrong, check-past, check-none}
-use Rattle.image.proofs.Limits.{ImageKept, limit-kept}
-use Rattle.image.proofs.OwnBytes.{own-wrong}
+use Rattle.image.proofs.Checks.{check_wrong, check_past, check_none}
+use Rattle.image.proofs.Limits.{ImageKept, limit_kept}
+use Rattle.image.proofs.OwnBytes.{own_wrong}
 use Rattle.checking.specs.Inner.{AreWords}
 use Rattle.checking.proofs.check.Goals as goal
 
 -- the words of a precision are even in number, and such as are checked
-count-even : (k : ℕ) → 1 ≤ k → 2 ^ k % 2 ≡ 0
-count-even zero h = absurd (not-suc-le-zero h)
-count-even (suc q) h = omega (arith, pow-suc 2 q)
+count_even : (k : ℕ) → 1 ≤ k → 2 ^ k % 2 ≡ 0
+count_even zero h = absurd (not-suc-le-zero h)
+count_even (suc q) h = omega (arith, pow-suc 2 q)
 
 are_words : (k : ℕ) → 1 ≤ k → k ≤ 12 → AreWords (quotients_of k)
 are_words k low high =
@@ -33,11 +33,11 @@ are_words k low high =
     record {
       one = omega arith;
       two = omega arith;
-      even = count-even k low;
-      numerator = numerator-whole k high;
+      even = count_even k low;
+      numerator = numerator_whole k high;
       divisors = omega (arith, pow_mono high);
-      values = λ j word l. omega (arith, decode-most k j word l, pow_mono wide);
-      judges = λ j word h l. word-judged k j word h l;
+      values = λ j word l. omega (arith, decode_most k j word l, pow_mono wide);
+      judges = λ j word h l. word_judged k j word h l;
     }
 
 -- behind the test of the limits, n being the number of the refusal: both are kept, and t is the table of k
@@ -46,13 +46,13 @@ module _ (k n : ℕ) (s : List ℕ) (t : Quotients) (number : n ≡ refusal_numb
   limit = sym number ∙ none
 
   kept : ImageKept k s
-  kept = limit-kept k s limit
+  kept = limit_kept k s limit
 
   table : t ≡ quotients_of k
   table = is ∙ kept.numbers
 
-  are-checked : AreWords t
-  are-checked = rw table (are_words k kept.low kept.high)
+  are_checked : AreWords t
+  are_checked = rw table (are_words k kept.low kept.high)
 
   counted : t.count ≡ 2 ^ k
   counted = ap (λ (q : Quotients). q.count) table
@@ -64,47 +64,47 @@ module _ (k n : ℕ) (s : List ℕ) (t : Quotients) (number : n ≡ refusal_numb
         lowest
         ∙ ap (λ (l : List ℕ). first_wrong (layout_of t) l) own
         ∙ ap (λ (q : Quotients). first_wrong (layout_of q) (own_bytes k s)) table
-        ∙ own-wrong k s kept
+        ∙ own_wrong k s kept
 
-    word-wrong : place < t.count → record { number = 6; place = place; value = 0 } ≡ done (check_outcome k s)
-    word-wrong h =
+    word_wrong : place < t.count → record { number = 6; place = place; value = 0 } ≡ done (check_outcome k s)
+    word_wrong h =
         let less : first_wrong (plain k) s < 2 ^ k = omega (arith, found, counted) in
         ap (λ (p : ℕ). done (record { number = 6; place = p; value = 0 })) found
-        ∙ ap done (sym (check-wrong k s limit less))
+        ∙ ap done (sym (check_wrong k s limit less))
 
     -- behind the test of the words all of them are right, and the byte that is found is the lowest with a one behind them
     module _ (passed : t.count ≤ place) {past : ℕ} (behind : past ≡ first_past (layout_of t) s) where
       right : 2 ^ k ≤ first_wrong (plain k) s
       right = omega (arith, found, counted)
 
-      past-is : past ≡ first_past (plain k) s
-      past-is = behind ∙ ap (λ (q : Quotients). first_past (layout_of q) s) table
+      past_is : past ≡ first_past (plain k) s
+      past_is = behind ∙ ap (λ (q : Quotients). first_past (layout_of q) s) table
 
-      tail-wrong : past < length s → record { number = 7; place = past; value = 0 } ≡ done (check_outcome k s)
-      tail-wrong h =
-          let less : first_past (plain k) s < length s = omega (arith, past-is) in
-          ap (λ (p : ℕ). done (record { number = 7; place = p; value = 0 })) past-is
-          ∙ ap done (sym (check-past k s limit right less))
+      tail_wrong : past < length s → record { number = 7; place = past; value = 0 } ≡ done (check_outcome k s)
+      tail_wrong h =
+          let less : first_past (plain k) s < length s = omega (arith, past_is) in
+          ap (λ (p : ℕ). done (record { number = 7; place = p; value = 0 })) past_is
+          ∙ ap done (sym (check_past k s limit right less))
 
-      none-wrong : length s ≤ past → record { number = 0; place = 0; value = 0 } ≡ done (check_outcome k s)
-      none-wrong h =
-          let all : length s ≤ first_past (plain k) s = omega (arith, past-is) in
-          ap done (sym (check-none k s limit right all))
+      none_wrong : length s ≤ past → record { number = 0; place = 0; value = 0 } ≡ done (check_outcome k s)
+      none_wrong h =
+          let all : length s ≤ first_past (plain k) s = omega (arith, past_is) in
+          ap done (sym (check_none k s limit right all))
 
 pub first_wrong-place-requires : goal.first_wrong-place-requires
 first_wrong-place-requires c =
-    are-checked c.args.k.0 c.refusal_number-number.result c.args.image.now c.table-table.result c.refusal_number-number.ensures c.if-number-ne0.false c.table-table.ensures
+    are_checked c.args.k.0 c.refusal_number-number.result c.args.image.now c.table-table.result c.refusal_number-number.ensures c.if-number-ne0.false c.table-table.ensures
 
 -- the lowest wrong word is the place
 pub returns-then-place-table : goal.returns-then-place-table
 returns-then-place-table c =
-    word-wrong c.args.k.0 c.refusal_number-number.result c.args.image.now c.table-table.result c.refusal_number-number.ensures c.if-number-ne0.false c.table-table.ensures c.own_bytes.ensures.bytes c.first_wrong-place.ensures c.if-place-table.true
+    word_wrong c.args.k.0 c.refusal_number-number.result c.args.image.now c.table-table.result c.refusal_number-number.ensures c.if-number-ne0.false c.table-table.ensures c.own_bytes.ensures.bytes c.first_wrong-place.ensures c.if-place-table.true
 
 pub returns-then-past-image : goal.returns-then-past-image
 returns-then-past-image c =
-    tail-wrong c.args.k.0 c.refusal_number-number.result c.args.image.now c.table-table.result c.refusal_number-number.ensures c.if-number-ne0.false c.table-table.ensures c.own_bytes.ensures.bytes c.first_wrong-place.ensures c.if-place-table.false c.first_one-past.ensures c.if-past-image.true
+    tail_wrong c.args.k.0 c.refusal_number-number.result c.args.image.now c.table-table.result c.refusal_number-number.ensures c.if-number-ne0.false c.table-table.ensures c.own_bytes.ensures.bytes c.first_wrong-place.ensures c.if-place-table.false c.first_one-past.ensures c.if-past-image.true
 
 -- nothing is wrong
 pub returns : goal.returns
 returns c =
-    none-wrong c.args.k.0 c.refusal_number-number.result c.args.image.now c.table-table.result c.refusal_number-number.ensures c.if-number-ne0.false c.table-table.ensures c.own_bytes.ensures.bytes c.first_wrong-place.ensures c.if-place-table.false c.first_one-past.ensures c.if-past-image.false
+    none_wrong c.args.k.0 c.refusal_number-number.result c.args.image.now c.table-table.result c.refusal_number-number.ensures c.if-number-ne0.false c.table-table.ensures c.own_bytes.ensures.bytes c.first_wrong-place.ensures c.if-place-table.false c.first_one-past.ensures c.if-past-image.false

@@ -12,11 +12,11 @@ use Rattle.nodes.specs.declared.Quotients.{Quotients}
 use Rattle.packing.specs.Packing.{Bytes, word_at}
 use Rattle.packing.specs.Inner.{field_read}
 use Rattle.packing.proofs.Words.{word_lt}
-use Rattle.bools.proofs.Lowest.{lowest-is, lowest-none}
+use Rattle.bools.proofs.Lowest.{lowest_is, lowest_none}
 use Rattle.layout.specs.Layout.{is_wrong, first_wrong}
 use Rattle.image.specs.Inner.{layout_of}
 use Rattle.checking.specs.Inner.{AreWords}
-use Rattle.checking.proofs.Twos.{word_fits, first_of, second-of, test-tells}
+use Rattle.checking.proofs.Twos.{word_fits, first_of, second_of, test_tells}
 use Rattle.checking.proofs.first_wrong.Goals as goal
 
 -- a turn of the loop at word j, whose place is `bit`: what is read there, and the words above and below in it
@@ -28,41 +28,41 @@ module _ (t : Quotients) (p : AreWords t) (s : List ℕ) (bytes : Bytes s) (j bi
   first_word e = e ∙ ap (λ (x : ℕ). x / 2 ^ t.width) reads ∙ first_of p s bytes j
 
   second_word : {word : ℕ} → word ≡ both % 2 ^ t.width → word ≡ word_at t.width s (j + 1)
-  second_word e = e ∙ ap (λ (x : ℕ). x % 2 ^ t.width) reads ∙ second-of p s bytes j
+  second_word e = e ∙ ap (λ (x : ℕ). x % 2 ^ t.width) reads ∙ second_of p s bytes j
 
   -- the first word has its place in 32 bits, and so has what it stands for
   first-fits : {word : ℕ} → word ≡ both / 2 ^ t.width → word < 2 ^ 32
   first-fits e = omega (arith, first_word e, word_fits p s j)
 
-  value-fits : {word value : ℕ} → word ≡ both / 2 ^ t.width → value ≡ decode_under t.lead j word → value < 2 ^ 32
-  value-fits e d = rw (d, first_word e) (p.values j (word_at t.width s j) (word_lt t.width s j))
+  value_fits : {word value : ℕ} → word ≡ both / 2 ^ t.width → value ≡ decode_under t.lead j word → value < 2 ^ 32
+  value_fits e d = rw (d, first_word e) (p.values j (word_at t.width s j) (word_lt t.width s j))
 
   module _ (even : j % 2 ≡ 0) (more : j < t.count) (right : (i : ℕ) → i < j → is_wrong (layout_of t) s i ≡ false) where
     -- both words of the turn are there
-    both-there : j + 1 < t.count
-    both-there = omega (arith, p.even)
+    both_there : j + 1 < t.count
+    both_there = omega (arith, p.even)
 
     -- what the test says of the first word
     module _ {word value : ℕ} {v : Bool} (high : word ≡ both / 2 ^ t.width) (decoded : value ≡ decode_under t.lead j word) (test : v ≡ rounds_up (numerator_bits t.numerator) (t.first + j) value) where
-      first-test : is_wrong (layout_of t) s j ≡ not v
-      first-test = test-tells p s j more (first_word high) decoded test
+      first_test : is_wrong (layout_of t) s j ≡ not v
+      first_test = test_tells p s j more (first_word high) decoded test
 
-      first-is : v ≡ false → j ≡ first_wrong (layout_of t) s
-      first-is e = sym (lowest-is (is_wrong (layout_of t) s) t.count j more (first-test ∙ ap not e) right)
+      first_is : v ≡ false → j ≡ first_wrong (layout_of t) s
+      first_is e = sym (lowest_is (is_wrong (layout_of t) s) t.count j more (first_test ∙ ap not e) right)
 
       -- and behind it what it says of the second one
       module _ {word2 value2 : ℕ} {v2 : Bool} (passed : v ≡ true) (low : word2 ≡ both % 2 ^ t.width) (decoded2 : value2 ≡ decode_under t.lead (j + 1) word2) (test2 : v2 ≡ rounds_up (numerator_bits t.numerator) (t.first + (j + 1)) value2) where
-        up-to-first : (i : ℕ) → i < j + 1 → is_wrong (layout_of t) s i ≡ false
-        up-to-first = below_more _ _ right (first-test ∙ ap not passed)
+        up_to_first : (i : ℕ) → i < j + 1 → is_wrong (layout_of t) s i ≡ false
+        up_to_first = below_more _ _ right (first_test ∙ ap not passed)
 
-        second-test : is_wrong (layout_of t) s (j + 1) ≡ not v2
-        second-test = test-tells p s (j + 1) both-there (second_word low) decoded2 test2
+        second_test : is_wrong (layout_of t) s (j + 1) ≡ not v2
+        second_test = test_tells p s (j + 1) both_there (second_word low) decoded2 test2
 
-        second-is : v2 ≡ false → j + 1 ≡ first_wrong (layout_of t) s
-        second-is e = sym (lowest-is (is_wrong (layout_of t) s) t.count (j + 1) both-there (second-test ∙ ap not e) up-to-first)
+        second_is : v2 ≡ false → j + 1 ≡ first_wrong (layout_of t) s
+        second_is e = sym (lowest_is (is_wrong (layout_of t) s) t.count (j + 1) both_there (second_test ∙ ap not e) up_to_first)
 
         again : v2 ≡ true → (i : ℕ) → i < j + 2 → is_wrong (layout_of t) s i ≡ false
-        again e i h = below_more _ _ up-to-first (second-test ∙ ap not e) i (omega arith)
+        again e i h = below_more _ _ up_to_first (second_test ∙ ap not e) i (omega arith)
 
 pub overflow_cast-high : goal.overflow_cast-high
 overflow_cast-high c =
@@ -72,17 +72,17 @@ overflow_cast-high c =
 pub overflow_cast-even : goal.overflow_cast-even
 overflow_cast-even c =
     let l = c.loop-j in
-    record { fits = value-fits c.args.table c.requires c.args.image.now (λ i. omega (arith, c.type_inv.image i)) l.j l.bit c.field-both.result l.invariant.3 c.field-both.ensures.value c.high.ensures c.decoded-even.ensures }
+    record { fits = value_fits c.args.table c.requires c.args.image.now (λ i. omega (arith, c.type_inv.image i)) l.j l.bit c.field-both.result l.invariant.3 c.field-both.ensures.value c.high.ensures c.decoded-even.ensures }
 
 pub returns-then-not-rounds_up : goal.returns-then-not-rounds_up
 returns-then-not-rounds_up c =
     let l = c.loop-j in
-    first-is c.args.table c.requires c.args.image.now (λ i. omega (arith, c.type_inv.image i)) l.j l.bit c.field-both.result l.invariant.3 c.field-both.ensures.value l.invariant.0 c.loop-j-test.true l.invariant.2 c.high.ensures c.decoded-even.ensures c.rounds_up.ensures c.if-not-rounds_up.true
+    first_is c.args.table c.requires c.args.image.now (λ i. omega (arith, c.type_inv.image i)) l.j l.bit c.field-both.result l.invariant.3 c.field-both.ensures.value l.invariant.0 c.loop-j-test.true l.invariant.2 c.high.ensures c.decoded-even.ensures c.rounds_up.ensures c.if-not-rounds_up.true
 
 pub returns-then-not-rounds_up-2 : goal.returns-then-not-rounds_up-2
 returns-then-not-rounds_up-2 c =
     let l = c.loop-j in
-    second-is c.args.table c.requires c.args.image.now (λ i. omega (arith, c.type_inv.image i)) l.j l.bit c.field-both.result l.invariant.3 c.field-both.ensures.value l.invariant.0 c.loop-j-test.true l.invariant.2 c.high.ensures c.decoded-even.ensures c.rounds_up.ensures c.if-not-rounds_up.false c.low.ensures c.decoded-odd.ensures c.rounds_up-in-loop-j.ensures c.if-not-rounds_up-2.true
+    second_is c.args.table c.requires c.args.image.now (λ i. omega (arith, c.type_inv.image i)) l.j l.bit c.field-both.result l.invariant.3 c.field-both.ensures.value l.invariant.0 c.loop-j-test.true l.invariant.2 c.high.ensures c.decoded-even.ensures c.rounds_up.ensures c.if-not-rounds_up.false c.low.ensures c.decoded-odd.ensures c.rounds_up-in-loop-j.ensures c.if-not-rounds_up-2.true
 
 pub loop-j-preserved : goal.loop-j-preserved
 loop-j-preserved c =
@@ -97,4 +97,4 @@ pub returns : goal.returns
 returns c =
     let t = c.args.table in
     let all : t.count ≤ c.loop-j.j = omega (arith, c.loop-j-test.false) in
-    sym (lowest-none (is_wrong (layout_of t) c.args.image.now) t.count (λ i h. c.loop-j.invariant.2 i (omega arith)))
+    sym (lowest_none (is_wrong (layout_of t) c.args.image.now) t.count (λ i h. c.loop-j.invariant.2 i (omega arith)))

@@ -7,7 +7,7 @@ use native.Mathlib.Numerals.{add-one}
 use lib.ListN.{length}
 use borrow.Author.Tests.{le-leb}
 use lib.Seq.{paste, paste-suc}
-use Rattle.decimal.proofs.Writing.{paste-written}
+use Rattle.decimal.proofs.Writing.{paste_written}
 use Rattle.decimal.proofs.put_text.Goals as goal
 
 pub loop-i-preserved : goal.loop-i-preserved
@@ -25,4 +25,4 @@ returns-clause-out_after c =
     let l = c.loop-i in
     let e : l.i ≡ length a.t.now = omega arith in
     rw (le-leb (a.at + length a.t.now) (length a.out.now) l.invariant.1)
-    (l.invariant.2 ∙ ap (paste a.out.now a.at a.t.now) e ∙ paste-written a.out.now a.at a.t.now)
+    (l.invariant.2 ∙ ap (paste a.out.now a.at a.t.now) e ∙ paste_written a.out.now a.at a.t.now)

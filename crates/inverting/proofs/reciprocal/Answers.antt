@@ -11,12 +11,12 @@ use borrow.Author.Tests.{le-leb}
 use Rattle.answers.specs.Refusal.{Refusal}
 use Rattle.answers.specs.Answer.{reciprocal_given}
 use Rattle.image.specs.Inner.{refusal_number}
-use Rattle.image.proofs.Limits.{limit-passes, limit-kept}
+use Rattle.image.proofs.Limits.{limit_passes, limit_kept}
 use Rattle.operand.specs.Operand.{cut_operand}
 use Rattle.operand.specs.Refusals.{fraction_refusal, operand_refusal}
 use Rattle.operand.specs.Inner.{operand_number, cut_fraction}
-use Rattle.operand.proofs.Laws.{cut-leading}
-use Rattle.operand.proofs.Limits.{operand-passes, operand-kept}
+use Rattle.operand.proofs.Laws.{cut_leading}
+use Rattle.operand.proofs.Limits.{operand_passes, operand_kept}
 use Rattle.interpolation.specs.Reciprocal.{read_reciprocal}
 use Rattle.interpolation.specs.Calls.{cut_refusals, reciprocal_outcome}
 use Rattle.interpolation.specs.Inner.{cut_of, cut_outcome}
@@ -38,24 +38,24 @@ module _ (k : ℕ) (s : List ℕ) (n X : ℕ) where
   module _ (kept : refusal_number k (length s) ≡ 0) where
     -- behind the second n and X keep theirs, and the bits that are handed on are the fraction bits of t
     module _ (kept-too : operand_number n X ≡ 0) (bits : ℕ) (cut : bits ≡ cut_fraction (2 * k + 3) n X) where
-      are-bits : bits ≡ cut_operand k n X % 2 ^ (2 * k + 3)
-      are-bits =
+      are_bits : bits ≡ cut_operand k n X % 2 ^ (2 * k + 3)
+      are_bits =
           cut
-          ∙ rw (le-leb n 63 (operand-kept n X kept-too).high, le-leb (2 * k + 3) 63 (omega (arith, (limit-kept k s kept).high))) refl
+          ∙ rw (le-leb n 63 (operand_kept n X kept-too).high, le-leb (2 * k + 3) 63 (omega (arith, (limit_kept k s kept).high))) refl
 
       whole : cut_of k bits ≡ cut_operand k n X
       whole =
-          let o = operand-kept n X kept-too in
-          ap (cut_of k) are-bits ∙ cut-leading (2 * k + 3) n X o.least o.below
+          let o = operand_kept n X kept-too in
+          ap (cut_of k) are_bits ∙ cut_leading (2 * k + 3) n X o.least o.below
 
-      cut-given : cut_outcome k s (cut_of k bits) ≡ reciprocal_outcome k s n X
-      cut-given =
-          ap (cut_outcome k s) whole ∙ sym (limit-passes k s later R kept ∙ operand-passes n X words R kept-too)
+      cut_given : cut_outcome k s (cut_of k bits) ≡ reciprocal_outcome k s n X
+      cut_given =
+          ap (cut_outcome k s) whole ∙ sym (limit_passes k s later R kept ∙ operand_passes n X words R kept-too)
 
-      cut-is : IsCut k s bits
-      cut-is =
-          let a = limit-kept k s kept in
-          record { low = a.low; high = a.high; long = a.long; below = rw are-bits (mod-lt (cut_operand k n X) (pow_pos (2 * k + 3))) }
+      cut_is : IsCut k s bits
+      cut_is =
+          let a = limit_kept k s kept in
+          record { low = a.low; high = a.high; long = a.long; below = rw are_bits (mod-lt (cut_operand k n X) (pow_pos (2 * k + 3))) }
 
 -- behind both
 pub returns : goal.returns
@@ -63,5 +63,5 @@ returns c =
     let a = c.args in
     c.of_cut.ensures
     ∙ ap reciprocal_given
-    (cut-given a.k.0 a.image.now a.n a.x (omega (arith, c.refusal_number-limit.ensures, c.if-limit-ne0.false))
+    (cut_given a.k.0 a.image.now a.n a.x (omega (arith, c.refusal_number-limit.ensures, c.if-limit-ne0.false))
     (omega (arith, c.refusal_number-number.ensures, c.if-number-ne0.false)) c.cut.result c.cut.ensures)

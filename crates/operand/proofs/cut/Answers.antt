@@ -4,15 +4,15 @@ use mathlib.Core.Path.{refl, ap, ◌∙◌}
 use Prim.Native.Nat.{ℕ, ◌-◌, ◌/◌, ◌^◌, ◌≤◌}
 use native.Mathlib.Omega.{arith}
 use borrow.Author.Tests.{le-leb}
-use Rattle.operand.proofs.Laws.{cut-shifted}
+use Rattle.operand.proofs.Laws.{cut_shifted}
 use Rattle.operand.proofs.cut.Goals as goal
 
 pub returns : goal.returns
 returns c =
     let a = c.args in
     let few : a.n ≤ 63 = omega (arith, c.if-n-gt-MOST_BITS.false) in
-    let few-kept : a.s ≤ 63 = omega (arith, c.if-s-gt-MOST_BITS.false) in
+    let few_kept : a.s ≤ 63 = omega (arith, c.if-s-gt-MOST_BITS.false) in
     c.high.ensures
     ∙ ap (λ (x : ℕ). x / 2 ^ (64 - a.s)) c.padded.ensures
-    ∙ cut-shifted a.s a.n 64 a.x (omega (arith, few)) (omega (arith, few-kept))
-    ∙ rw (le-leb a.n 63 few, le-leb a.s 63 few-kept) refl
+    ∙ cut_shifted a.s a.n 64 a.x (omega (arith, few)) (omega (arith, few_kept))
+    ∙ rw (le-leb a.n 63 few, le-leb a.s 63 few_kept) refl

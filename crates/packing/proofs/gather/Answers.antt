@@ -1,7 +1,7 @@
 -- `packing::gather` meets its contract. The loop's invariant: the value is that of the bytes passed, 8 bits for each of them.
 -- The measure is what is left of the bytes. Assumes nothing.
 use Rattle.std.proofs.Common.{ℕ, ◌+◌, ◌-◌, ◌*◌, ◌≤◌, get_or, sym, ap, ◌∙◌, arith, pow_mono}
-use Rattle.packing.proofs.Bytes.{value-step, value-step-lt}
+use Rattle.packing.proofs.Bytes.{value_step, value_step_lt}
 use Rattle.packing.proofs.gather.Goals as goal
 
 pub overflow_mul-value : goal.overflow_mul-value
@@ -23,6 +23,6 @@ loop-at-preserved c =
     let inv = c.loop-at.invariant in (
       omega arith,
       omega arith,
-      ap (λ (x : ℕ). x * 256 + get_or s at 0) inv.2 ∙ sym (value-step s first at inv.0),
-      value-step-lt value (get_or s at 0) first at inv.0 inv.3 (omega (arith, c.shared_slice_known-1.given at)),
+      ap (λ (x : ℕ). x * 256 + get_or s at 0) inv.2 ∙ sym (value_step s first at inv.0),
+      value_step_lt value (get_or s at 0) first at inv.0 inv.3 (omega (arith, c.shared_slice_known-1.given at)),
     )

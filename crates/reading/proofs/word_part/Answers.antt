@@ -9,7 +9,7 @@ use Rattle.packing.specs.Packing.{span_bytes}
 use Rattle.answers.specs.Answer.{part}
 use Rattle.nodes.specs.declared.Quotients.{Quotients}
 use Rattle.image.specs.Inner.{refusal_number}
-use Rattle.image.proofs.Limits.{limit-kept}
+use Rattle.image.proofs.Limits.{limit_kept}
 use Rattle.image.proofs.Shown.{shown-from, shown-count}
 use Rattle.reading.proofs.word_part.Goals as goal
 
@@ -24,7 +24,7 @@ returns c =
     let s = c.args.image.now in
     let j = c.args.j in
     let limit : refusal_number k (length s) ≡ 0 = omega (arith, c.refusal_number-number.ensures, c.if-number-ne0.false) in
-    let kept = limit-kept k s limit in
+    let kept = limit_kept k s limit in
     let table = c.table-table.ensures ∙ kept.numbers in
     let below : j < 2 ^ k = omega (arith, ap (λ (t : Quotients). t.count) table, c.if-table-j.false) in
     ap (λ (t : Quotients). part (j * t.width / 8) ((j * t.width + t.width + 7) / 8 - j * t.width / 8)) table

@@ -5,12 +5,12 @@ use mathlib.Core.Bool.{true, false}
 use native.Mathlib.Omega.{arith}
 use borrow.Author.Tests.{le-leb, lt-leb}
 use lib.ListN.{length}
-use Rattle.decimal.proofs.Writing.{wrote-room}
+use Rattle.decimal.proofs.Writing.{wrote_room}
 use Rattle.precision.specs.Precision.{in_range}
 use Rattle.lines.specs.Lines.{refused_text}
 use Rattle.lines.specs.Inner.{longest_refusal}
 use Rattle.table_text.specs.TableText.{longest_text, precision_of, printed, printed_length}
-use Rattle.table_text.proofs.LineLaws.{text-refused, text-table}
+use Rattle.table_text.proofs.LineLaws.{text-refused, text_table}
 use Rattle.table_text.proofs.print.Goals as goal
 
 pub returns-then-out-lt-LONGEST_TEXT : goal.returns-then-out-lt-LONGEST_TEXT
@@ -24,7 +24,7 @@ returns-then-not-in_range c =
     let a = c.args in
     let shut : in_range (precision_of a.input.now) ≡ false =
     ap in_range (sym c.requested-k.ensures) ∙ sym c.in_range.ensures.value ∙ c.if-not-in_range.true in
-    let w = wrote-room a.out.now 0 longest_refusal (refused_text 1) (omega arith) c.put_refused.ensures.value c.put_refused.ensures.out_after in
+    let w = wrote_room a.out.now 0 longest_refusal (refused_text 1) (omega arith) c.put_refused.ensures.value c.put_refused.ensures.out_after in
     rw (le-leb longest_text (length a.out.now) (omega arith), text-refused a.input.now shut) record { value = omega (arith, w.place); out_after = w.bytes; longest_text_value = refl }
 
 pub returns : goal.returns
@@ -34,4 +34,4 @@ returns c =
     let served : in_range (precision_of a.input.now) ≡ true =
     ap in_range (sym c.requested-k.ensures) ∙ sym c.in_range.ensures.value ∙ c.if-not-in_range.false in
     let w = c.table.ensures in
-    rw (le-leb longest_text (length a.out.now) (omega arith), text-table a.input.now served, ← c.requested-k.ensures) record { value = omega (arith, w.place); out_after = w.bytes; longest_text_value = refl }
+    rw (le-leb longest_text (length a.out.now) (omega arith), text_table a.input.now served, ← c.requested-k.ensures) record { value = omega (arith, w.place); out_after = w.bytes; longest_text_value = refl }

@@ -3,7 +3,7 @@
 use mathlib.Core.Path.{sym, ◌∙◌}
 use native.Mathlib.Omega.{arith}
 use Rattle.lines.proofs.ReadLines.{read_below}
-use Rattle.table_text.proofs.Requests.{request-found}
+use Rattle.table_text.proofs.Requests.{request_found}
 use Rattle.table_text.proofs.requested.Goals as goal
 
 pub overflow_cast-result : goal.overflow_cast-result
@@ -14,9 +14,9 @@ overflow_cast-result c =
 pub returns-in-Number : goal.returns-in-Number
 returns-in-Number c =
     let s = c.args.input.now in
-    sym (request-found s (sym c.read-found.ensures ∙ c.in-Number.is))
+    sym (request_found s (sym c.read-found.ensures ∙ c.in-Number.is))
 
 pub returns-in-Other : goal.returns-in-Other
 returns-in-Other c =
     let s = c.args.input.now in
-    sym (request-found s (sym c.read-found.ensures ∙ c.in-Other.is))
+    sym (request_found s (sym c.read-found.ensures ∙ c.in-Other.is))

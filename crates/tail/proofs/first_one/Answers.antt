@@ -10,15 +10,15 @@ use native.Mathlib.Omega.{arith}
 use lib.Dec.{eqb}
 use lib.ListN.{length, get_or}
 use Rattle.bools.proofs.Bools.{below_or_not}
-use Rattle.bools.proofs.Lowest.{lowest-is, lowest-none, lowest-agrees}
+use Rattle.bools.proofs.Lowest.{lowest_is, lowest_none, lowest_agrees}
 use Rattle.tail.specs.Tail.{bits_from, has_one_from, first_one_from}
-use Rattle.tail.proofs.Laws.{bits_none, bits-one, byte-before, byte-from}
+use Rattle.tail.proofs.Laws.{bits_none, bits_one, byte_before, byte_from}
 use Rattle.tail.proofs.first_one.Goals as goal
 
 module _ (b : ℕ) (s : List ℕ) where
   -- the bytes before that of bit b have none of the bits
   before : (i : ℕ) → i < b / 8 → has_one_from b s i ≡ false
-  before i h = byte-before b s i (omega (arith, h))
+  before i h = byte_before b s i (omega (arith, h))
 
   -- that byte has its lowest ones
   here : get_or s (b / 8) 0 % 2 ^ (8 - b % 8) ≡ bits_from b s (b / 8)
@@ -29,7 +29,7 @@ module _ (b : ℕ) (s : List ℕ) where
 
   -- where it has no one it may be passed
   pass : bits_from b s (b / 8) ≡ 0 → first_one_from (8 * (b / 8 + 1)) s ≡ first_one_from b s
-  pass e = lowest-agrees (has_one_from (8 * (b / 8 + 1)) s) (has_one_from b s) (length s) agrees
+  pass e = lowest_agrees (has_one_from (8 * (b / 8 + 1)) s) (has_one_from b s) (length s) agrees
     where
       none : (i : ℕ) → i < b / 8 + 1 → has_one_from b s i ≡ false
       none i h =
@@ -40,8 +40,8 @@ module _ (b : ℕ) (s : List ℕ) where
 
       agrees : (i : ℕ) → i < length s → has_one_from (8 * (b / 8 + 1)) s i ≡ has_one_from b s i
       agrees i h =
-          ⊎_elim (λ l. byte-before (8 * (b / 8 + 1)) s i (omega (arith, l)) ∙ sym (none i l))
-          (λ g. ap (λ (x : ℕ). not (eqb x 0)) (byte-from (8 * (b / 8 + 1)) s i (omega (arith, g)) ∙ sym (byte-from b s i (omega (arith, g)))))
+          ⊎_elim (λ l. byte_before (8 * (b / 8 + 1)) s i (omega (arith, l)) ∙ sym (none i l))
+          (λ g. ap (λ (x : ℕ). not (eqb x 0)) (byte_from (8 * (b / 8 + 1)) s i (omega (arith, g)) ∙ sym (byte_from b s i (omega (arith, g)))))
           (below_or_not i (b / 8 + 1))
 
 -- they begin behind the last byte
@@ -49,14 +49,14 @@ pub returns-then-s-first : goal.returns-then-s-first
 returns-then-s-first c =
     let a = c.args in
     let past : length a.s.now ≤ a.bit / 8 = c.if-s-first.true in
-    sym (lowest-none (has_one_from a.bit a.s.now) (length a.s.now) (λ i h. before a.bit a.s.now i (omega (arith, h, past))))
+    sym (lowest_none (has_one_from a.bit a.s.now) (length a.s.now) (λ i h. before a.bit a.s.now i (omega (arith, h, past))))
 
 pub returns-then-low-ne0 : goal.returns-then-low-ne0
 returns-then-low-ne0 c =
     let a = c.args in
-    sym (lowest-is (has_one_from a.bit a.s.now) (length a.s.now) (a.bit / 8)
+    sym (lowest_is (has_one_from a.bit a.s.now) (length a.s.now) (a.bit / 8)
     (omega (arith, c.if-s-first.false))
-    (bits-one a.bit a.s.now (a.bit / 8) (λ e. c.if-low-ne0.true (c.low.ensures ∙ here a.bit a.s.now ∙ e)))
+    (bits_one a.bit a.s.now (a.bit / 8) (λ e. c.if-low-ne0.true (c.low.ensures ∙ here a.bit a.s.now ∙ e)))
     (before a.bit a.s.now))
 
 pub returns : goal.returns

@@ -4,7 +4,7 @@
 use Rattle.std.proofs.Common.{◌≡◌, ℕ, ◌+◌, ◌-◌, ◌*◌, ◌/◌, ◌%◌, ◌^◌, List, length, set, sym, ap, ◌∙◌, ap₂, arith, le-leb}
 use Rattle.packing.specs.Packing.{bytes_taken}
 use Rattle.packing.specs.Writing.{stored, wait_from}
-use Rattle.packing.proofs.Storing.{stored_more, rest_more, stored-top}
+use Rattle.packing.proofs.Storing.{stored_more, rest_more, stored_top}
 use Rattle.packing.proofs.writing.finish.Goals as goal
 
 pub loop-at-preserved : goal.loop-at-preserved
@@ -37,4 +37,4 @@ returns-clause-image_after c =
     (inv.3
     ∙ ap (λ (m : ℕ). stored a.image.now first m (v / 2 ^ (64 - 8 * m))) all
     ∙ ap (λ (x : ℕ). stored a.image.now first n (x / 2 ^ (64 - 8 * n))) c.padded-rest.ensures
-    ∙ stored-top a.image.now first a.w.waiting (a.w.place % 64) n (omega arith) (omega arith))
+    ∙ stored_top a.image.now first a.w.waiting (a.w.place % 64) n (omega arith) (omega arith))

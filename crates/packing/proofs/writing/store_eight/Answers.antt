@@ -4,7 +4,7 @@
 use Rattle.std.proofs.Common.{ℕ, ◌+◌, List, ◌++◌, take, drop, sym, ap, ◌∙◌, append_assoc, arith}
 use native.Mathlib.Numerals.{unary_clauses}
 use lib.Seq.{sets-eq}
-use Rattle.packing.proofs.Storing.{eight_bytes, to_bytes-eight}
+use Rattle.packing.proofs.Storing.{eight_bytes, to_bytes_eight}
 use Rattle.packing.proofs.writing.store_eight.Goals as goal
 
 pub returns : goal.returns
@@ -16,4 +16,4 @@ returns c =
     (simp unary_clauses at
     (sets-eq (eight_bytes v) s at c.requires
     ∙ append_assoc (take at s) (eight_bytes v) (drop (at + 8) s)
-    ∙ ap (λ (l : List ℕ). take at s ++ (l ++ drop (at + 8) s)) (sym (to_bytes-eight v (omega arith)))))
+    ∙ ap (λ (l : List ℕ). take at s ++ (l ++ drop (at + 8) s)) (sym (to_bytes_eight v (omega arith)))))
