@@ -26,7 +26,7 @@ PC_THERE = $(DESTDIR)$(abspath $(LIBDIR))/pkgconfig/yildegga.pc
 archive: $(ARCHIVE)
 
 $(ARCHIVE): $(PROVED)
-	cd crates/yildegga && rt lib
+	cd crates/yildegga && rt lib --cpu x86-64
 	@mkdir -p $(@D)
 	cp crates/yildegga/out/libyildegga.a $@
 

@@ -22,7 +22,7 @@ def archive(name="yildegga"):
     path = ROOT / "target" / "staticlib" / f"lib{name}.a"
     if not path.is_file() or path.stat().st_mtime < max(file.stat().st_mtime for file in sources()):
         crate = ROOT / "crates" / name
-        done = subprocess.run(["rt", "lib"], cwd=crate, stdin=subprocess.DEVNULL, capture_output=True, text=True, timeout=3600)
+        done = subprocess.run(["rt", "lib", "--cpu", "x86-64"], cwd=crate, stdin=subprocess.DEVNULL, capture_output=True, text=True, timeout=3600)
         assert done.returncode == 0, f"rt lib in crates/{name}: status {done.returncode}: {(done.stdout + done.stderr)[-400:]}"
         path.parent.mkdir(parents=True, exist_ok=True)
         shutil.copyfile(crate / "out" / path.name, path)
