@@ -137,17 +137,13 @@ def contracts_stand():
 
 # ---- must-fail edits
 
-# Libraries that no other crate uses yet: their calls have no section in docs/CONTRACTS.md.
-UNFINISHED = {"format"}
-
-
 def edits():
     return {f"{path.parent.parent.name}/{path.stem}" for path in CRATES.glob("*/must-fail/*.edit")}
 
 
 def sections():
-    """docs/CONTRACTS.md by its headings `CRATE::FN(...)`, or `Precision::FN(self)` for the crate precision: for each open call, as
-    (crate, name), the edits that the rows of its table end in."""
+    """docs/CONTRACTS.md by its headings `CRATE::FN(...)`, or `Precision::FN(self)` for the crate precision and `Format::FN(self)` for format:
+    for each open call, as (crate, name), the edits that the rows of its table end in."""
     found = []
     for text in re.split(r"^## ", CONTRACTS.read_text(), flags=re.M)[1:]:
         call = re.match(r"`(\w+)::(\w+)\(.*\)`\n", text)
@@ -158,10 +154,7 @@ def sections():
 
 def enough_edits():
     """Each open call has a section in docs/CONTRACTS.md with two wrong programs or more of its own crate, and each section a call."""
-    used = {name for below in listed().values() for name in below}
-    if UNFINISHED & used:
-        return f"used, and not finished: {UNFINISHED & used}"
-    calls = [(crate, name) for crate, name, _ in open_functions() if crate not in UNFINISHED]
+    calls = [(crate, name) for crate, name, _ in open_functions()]
     listed_calls = [call for call, _ in sections()]
     bad = [f"{crate}::{name}: {calls.count((crate, name))} open functions, {listed_calls.count((crate, name))} sections"
            for crate, name in sorted({*calls, *listed_calls})
