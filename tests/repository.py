@@ -204,7 +204,7 @@ def said_of_edits():
 
 def complaint(said):
     """The first thing that the check had against an edited crate, but for names that the edit took away, or None where it is said that
-    there is nothing else, that the prover met a limit, or that the edit was not refused."""
+    there is nothing else, that the prover only met a limit, or that the edit was not refused."""
     found = re.fullmatch(r"refused, as it must be: (?:note: )?(.+)", said or "")
     return found and found[1]
 
