@@ -1,5 +1,4 @@
--- `building::fill` meets its contract: before the word of i, as many words are put as divisors came before it. The running divisor is no NaN, and the
--- measure is the number of words to come.
+-- `building::fill` meets its contract: each word has room and is put behind those before it, and the guesses are asked for with doubles that are no NaN.
 -- Assumes nothing.
 use mathlib.Core.Path.{◌≡◌, ap, ◌∙◌}
 use Prim.Native.Nat.{ℕ, ◌-◌, ◌*◌}

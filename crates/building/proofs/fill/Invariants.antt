@@ -1,4 +1,4 @@
--- `building::fill` meets its contract: before the word of i, as many words are put as divisors came before it. The running divisor is no NaN, and the
+-- The loop of `building::fill`: before the word of i, as many words are put as divisors came before it. The running divisor is no NaN, and the
 -- measure is the number of words to come.
 -- Assumes nothing.
 use mathlib.Core.Bool.{not}

@@ -95,11 +95,6 @@ pub first_wrong-place-requires : goal.first_wrong-place-requires
 first_wrong-place-requires c =
     are_checked c.args.k.0 c.refusal_number-number.result c.args.image.now c.table-table.result c.refusal_number-number.ensures c.if-number-ne0.false c.table-table.ensures
 
--- the lowest wrong word is the place
-pub returns-then-place-table : goal.returns-then-place-table
-returns-then-place-table c =
-    word_wrong c.args.k.0 c.refusal_number-number.result c.args.image.now c.table-table.result c.refusal_number-number.ensures c.if-number-ne0.false c.table-table.ensures c.own_bytes.ensures.bytes c.first_wrong-place.ensures c.if-place-table.true
-
 pub returns-then-past-image : goal.returns-then-past-image
 returns-then-past-image c =
     tail_wrong c.args.k.0 c.refusal_number-number.result c.args.image.now c.table-table.result c.refusal_number-number.ensures c.if-number-ne0.false c.table-table.ensures c.own_bytes.ensures.bytes c.first_wrong-place.ensures c.if-place-table.false c.first_one-past.ensures c.if-past-image.true
@@ -108,3 +103,8 @@ returns-then-past-image c =
 pub returns : goal.returns
 returns c =
     none_wrong c.args.k.0 c.refusal_number-number.result c.args.image.now c.table-table.result c.refusal_number-number.ensures c.if-number-ne0.false c.table-table.ensures c.own_bytes.ensures.bytes c.first_wrong-place.ensures c.if-place-table.false c.first_one-past.ensures c.if-past-image.false
+
+-- the lowest wrong word is the place
+pub returns-then-place-table : goal.returns-then-place-table
+returns-then-place-table c =
+    word_wrong c.args.k.0 c.refusal_number-number.result c.args.image.now c.table-table.result c.refusal_number-number.ensures c.if-number-ne0.false c.table-table.ensures c.own_bytes.ensures.bytes c.first_wrong-place.ensures c.if-place-table.true

@@ -1,4 +1,4 @@
--- `decimal::put_text` meets its contract. The invariant: the first i bytes of t stand at `at`. The measure is what is left of t.
+-- `decimal::put_text` meets its contract: a turn pastes one byte more, and all bytes pasted are the text written.
 -- Assumes nothing.
 use mathlib.Core.Path.{◌≡◌, ap, ◌∙◌}
 use Prim.Native.Nat.{◌+◌}

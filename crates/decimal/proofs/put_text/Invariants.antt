@@ -1,4 +1,4 @@
--- `decimal::put_text` meets its contract. The invariant: the first i bytes of t stand at `at`. The measure is what is left of t.
+-- The loop of `decimal::put_text`: the first i bytes of t stand at `at`. The measure is what is left of t.
 -- Assumes nothing.
 use mathlib.Core.Path.{◌≡◌}
 use Prim.Native.Nat.{◌+◌, ◌-◌, ◌≤◌}

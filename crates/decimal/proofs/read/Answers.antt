@@ -1,5 +1,5 @@
--- `decimal::read` meets its contract. The invariant: what is found from the value so far and the bytes that are left is what is found
--- from all of s. The measure is what is left of the length. Assumes nothing.
+-- `decimal::read` meets its contract: where it stops before the end, no number below 2^64 can come of what is left.
+-- Assumes nothing.
 use mathlib.Core.Path.{sym, ◌∙◌}
 use native.Mathlib.Omega.{arith}
 use Rattle.decimal.proofs.Steps.{at_over}

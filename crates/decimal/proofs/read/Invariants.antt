@@ -1,4 +1,4 @@
--- `decimal::read` meets its contract. The invariant: what is found from the value so far and the bytes that are left is what is found
+-- The loop of `decimal::read`: what is found from the value so far and the bytes that are left is what is found
 -- from all of s. The measure is what is left of the length. Assumes nothing.
 use mathlib.Core.Path.{◌≡◌}
 use Prim.Native.Nat.{◌-◌, ◌^◌, ◌≤◌, ◌<◌}

@@ -141,33 +141,6 @@ returns-then-not-rounds_up c =
     sym (lower_test a.precision a.j a.window c.requires q given low c.rounds_up.ensures) ∙ c.if-not-rounds_up.true in
     rw fails (code_wrong (4294967296 + a.j) a.j (omega arith))
 
-pub returns-then-not-rounds_up-2 : goal.returns-then-not-rounds_up-2
-returns-then-not-rounds_up-2 c =
-    let a = c.args in
-    let q = c.table-table.result in
-    let given = c.table-table.ensures in
-    let low = lower a.precision a.j a.window c.requires q given c.high-both.ensures c.high.ensures c.decoded-lower.ensures in
-    let high = upper a.precision a.j a.window c.requires q given c.high-both.ensures c.low.ensures c.decoded-upper.ensures in
-    let passed : passes a.precision a.j (lower_end a.precision (both_in a.precision a.window) a.j) ≡ true =
-    sym (lower_test a.precision a.j a.window c.requires q given low c.rounds_up.ensures) ∙ c.if-not-rounds_up.false in
-    let fails : passes a.precision (a.j + 1) (upper_end a.precision (both_in a.precision a.window) a.j) ≡ false =
-    sym (upper_test a.precision a.j a.window c.requires q given high c.rounds_up-2.ensures) ∙ c.if-not-rounds_up-2.true in
-    rw (passed, fails) (code_wrong (4294967297 + a.j) (a.j + 1) (omega arith))
-
-pub interpolated-requires : goal.interpolated-requires
-interpolated-requires c =
-    let a = c.args in
-    let q = c.table-table.result in
-    let given = c.table-table.ensures in
-    let low = lower a.precision a.j a.window c.requires q given c.high-both.ensures c.high.ensures c.decoded-lower.ensures in
-    let high = upper a.precision a.j a.window c.requires q given c.high-both.ensures c.low.ensures c.decoded-upper.ensures in
-    let passed = sym (lower_test a.precision a.j a.window c.requires q given low c.rounds_up.ensures) ∙ c.if-not-rounds_up.false in
-    let passed_too = sym (upper_test a.precision a.j a.window c.requires q given high c.rounds_up-2.ensures) ∙ c.if-not-rounds_up-2.false in
-    is_piece a.precision a.j c.decoded-lower.result.0 c.decoded-upper.result.0 c.requires
-    (low ∙ passed_is_node a.precision a.j (lower_end a.precision (both_in a.precision a.window) a.j) passed)
-    (high ∙ passed_is_node a.precision (a.j + 1) (upper_end a.precision (both_in a.precision a.window) a.j) passed_too)
-    a.kept c.low-2.result c.low-2.ensures
-
 pub returns : goal.returns
 returns c =
     let a = c.args in
@@ -194,3 +167,30 @@ returns c =
     ∙ ap₂ (λ (x y : ℕ). chopped k (product_sum k x y f)) low high
     ∙ ap (λ (x : ℕ). chopped k (product_sum k (lower_end k both j) (upper_end k both j) x)) c.low-2.ensures)
     ∙ rw (passed, passed_too)
+
+pub interpolated-requires : goal.interpolated-requires
+interpolated-requires c =
+    let a = c.args in
+    let q = c.table-table.result in
+    let given = c.table-table.ensures in
+    let low = lower a.precision a.j a.window c.requires q given c.high-both.ensures c.high.ensures c.decoded-lower.ensures in
+    let high = upper a.precision a.j a.window c.requires q given c.high-both.ensures c.low.ensures c.decoded-upper.ensures in
+    let passed = sym (lower_test a.precision a.j a.window c.requires q given low c.rounds_up.ensures) ∙ c.if-not-rounds_up.false in
+    let passed_too = sym (upper_test a.precision a.j a.window c.requires q given high c.rounds_up-2.ensures) ∙ c.if-not-rounds_up-2.false in
+    is_piece a.precision a.j c.decoded-lower.result.0 c.decoded-upper.result.0 c.requires
+    (low ∙ passed_is_node a.precision a.j (lower_end a.precision (both_in a.precision a.window) a.j) passed)
+    (high ∙ passed_is_node a.precision (a.j + 1) (upper_end a.precision (both_in a.precision a.window) a.j) passed_too)
+    a.kept c.low-2.result c.low-2.ensures
+
+pub returns-then-not-rounds_up-2 : goal.returns-then-not-rounds_up-2
+returns-then-not-rounds_up-2 c =
+    let a = c.args in
+    let q = c.table-table.result in
+    let given = c.table-table.ensures in
+    let low = lower a.precision a.j a.window c.requires q given c.high-both.ensures c.high.ensures c.decoded-lower.ensures in
+    let high = upper a.precision a.j a.window c.requires q given c.high-both.ensures c.low.ensures c.decoded-upper.ensures in
+    let passed : passes a.precision a.j (lower_end a.precision (both_in a.precision a.window) a.j) ≡ true =
+    sym (lower_test a.precision a.j a.window c.requires q given low c.rounds_up.ensures) ∙ c.if-not-rounds_up.false in
+    let fails : passes a.precision (a.j + 1) (upper_end a.precision (both_in a.precision a.window) a.j) ≡ false =
+    sym (upper_test a.precision a.j a.window c.requires q given high c.rounds_up-2.ensures) ∙ c.if-not-rounds_up-2.true in
+    rw (passed, fails) (code_wrong (4294967297 + a.j) (a.j + 1) (omega arith))

@@ -1,5 +1,5 @@
--- `packing::gather` meets its contract. The loop's invariant: the value is that of the bytes passed, 8 bits for each of them.
--- The measure is what is left of the bytes. Assumes nothing.
+-- `packing::gather` meets its contract: a turn makes the value 256 times as large and adds a byte, and eight bytes have their place in 64 bits.
+-- Assumes nothing.
 use Rattle.std.proofs.Common.{ℕ, ◌+◌, ◌-◌, ◌*◌, ◌≤◌, get_or, sym, ap, ◌∙◌, arith, pow_mono}
 use Rattle.packing.proofs.Bytes.{value_step, value_step_lt}
 use Rattle.packing.proofs.gather.Goals as goal

@@ -1,4 +1,4 @@
--- `packing::gather` meets its contract. The loop's invariant: the value is that of the bytes passed, 8 bits for each of them.
+-- The loop of `packing::gather`: the value is that of the bytes passed, 8 bits for each of them.
 -- The measure is what is left of the bytes. Assumes nothing.
 use Rattle.std.proofs.Common.{◌≡◌, ◌-◌, ◌*◌, ◌^◌, ◌<◌, ◌≤◌}
 use Rattle.packing.specs.Packing.{bytes_value}

@@ -1,5 +1,4 @@
--- `table_text::rows` meets its contract. The invariant: the width is that of a word, and the lines of the first j nodes stand at `start`.
--- The measure is how many are left.
+-- `table_text::rows` meets its contract: a turn writes the line of one node more.
 -- Assumes nothing.
 use mathlib.Core.Path.{refl, ◌∙◌}
 use native.Mathlib.Omega.{arith}

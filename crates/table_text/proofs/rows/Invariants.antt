@@ -1,4 +1,4 @@
--- `table_text::rows` meets its contract. The invariant: the width is that of a word, and the lines of the first j nodes stand at `start`.
+-- The loop of `table_text::rows`: the width is that of a word, and the lines of the first j nodes stand at `start`.
 -- The measure is how many are left.
 -- Assumes nothing.
 use mathlib.Core.Path.{◌≡◌}

@@ -1,5 +1,4 @@
--- `tail::any_set` meets its contract. The loop's invariant: the bytes or-ed so far make 0 exactly where each of them is 0. The measure is the number of
--- bytes left.
+-- `tail::any_set` meets its contract: or-ing a byte makes 0 only where both are 0.
 -- Assumes nothing.
 use mathlib.Core.Path.{◌≡◌, ap₂}
 use Prim.Native.Nat.{ℕ, ◌+◌}

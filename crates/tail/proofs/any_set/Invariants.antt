@@ -1,4 +1,4 @@
--- `tail::any_set` meets its contract. The loop's invariant: the bytes or-ed so far make 0 exactly where each of them is 0. The measure is the number of
+-- The loop of `tail::any_set`: the bytes or-ed so far make 0 exactly where each of them is 0. The measure is the number of
 -- bytes left.
 -- Assumes nothing.
 use mathlib.Core.Path.{◌≡◌}

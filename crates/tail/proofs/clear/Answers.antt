@@ -1,5 +1,4 @@
--- `tail::clear` meets its contract. The loop's invariant: zeros are written from the first byte up to the next one. The measure is the number of
--- bytes left.
+-- `tail::clear` meets its contract: a turn clears one byte more.
 -- Assumes nothing.
 use mathlib.Core.Path.{◌∙◌, ap}
 use mathlib.Core.List.{List}

@@ -1,4 +1,4 @@
--- `tail::clear` meets its contract. The loop's invariant: zeros are written from the first byte up to the next one. The measure is the number of
+-- The loop of `tail::clear`: zeros are written from the first byte up to the next one. The measure is the number of
 -- bytes left.
 -- Assumes nothing.
 use mathlib.Core.Path.{◌≡◌}

@@ -51,6 +51,11 @@ returns-then-s-first c =
     let past : length a.s.now ≤ a.bit / 8 = c.if-s-first.true in
     sym (lowest_none (has_one_from a.bit a.s.now) (length a.s.now) (λ i h. before a.bit a.s.now i (omega (arith, h, past))))
 
+pub returns : goal.returns
+returns c =
+    let a = c.args in
+    c.first_set-2.ensures ∙ pass a.bit a.s.now (sym (c.low.ensures ∙ here a.bit a.s.now) ∙ c.if-low-ne0.false)
+
 pub returns-then-low-ne0 : goal.returns-then-low-ne0
 returns-then-low-ne0 c =
     let a = c.args in
@@ -58,8 +63,3 @@ returns-then-low-ne0 c =
     (omega (arith, c.if-s-first.false))
     (bits_one a.bit a.s.now (a.bit / 8) (λ e. c.if-low-ne0.true (c.low.ensures ∙ here a.bit a.s.now ∙ e)))
     (before a.bit a.s.now))
-
-pub returns : goal.returns
-returns c =
-    let a = c.args in
-    c.first_set-2.ensures ∙ pass a.bit a.s.now (sym (c.low.ensures ∙ here a.bit a.s.now) ∙ c.if-low-ne0.false)

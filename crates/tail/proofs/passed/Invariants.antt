@@ -1,4 +1,4 @@
--- `tail::passed` meets its contract. The loop's invariant: every byte from the first one up to the next is 0. The measure is the number of bytes left.
+-- The loop of `tail::passed`: every byte from the first one up to the next is 0. The measure is the number of bytes left.
 -- Assumes nothing.
 use Prim.Native.Nat.{◌-◌, ◌≤◌}
 use lib.ListN.{length}

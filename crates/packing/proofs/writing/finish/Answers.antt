@@ -1,5 +1,4 @@
--- `packing::finish` meets its contract: the bits that wait stand at the top of 64, and each turn stores the highest byte of what is left of them. The
--- measure is the number of bytes to come.
+-- `packing::finish` meets its contract: a turn stores one byte more of those that wait, and behind the last one all of them stand there.
 -- Assumes nothing.
 use Rattle.std.proofs.Common.{◌≡◌, ℕ, ◌+◌, ◌-◌, ◌*◌, ◌/◌, ◌%◌, ◌^◌, List, length, set, sym, ap, ◌∙◌, ap₂, arith, le-leb}
 use Rattle.packing.specs.Packing.{bytes_taken}

@@ -1,4 +1,4 @@
--- `packing::finish` meets its contract: the bits that wait stand at the top of 64, and each turn stores the highest byte of what is left of them. The
+-- The loop of `packing::finish`: the bits that wait stand at the top of 64, and each turn stores the highest byte of what is left of them. The
 -- measure is the number of bytes to come.
 -- Assumes nothing.
 use Rattle.std.proofs.Common.{◌≡◌, ◌-◌, ◌*◌, ◌/◌, ◌%◌, ◌^◌, ◌≤◌}

@@ -38,14 +38,6 @@ stored_eight w width word place o padded high taken wide p e less d h t =
     (d ∙ ap (λ (x : ℕ). w.waiting * 2 ^ (width - x) % 2 ^ 64) same)
     (h ∙ ap₂ (λ (x y : ℕ). x / 2 ^ y) t same)
 
-pub overflow_add-padded : goal.overflow_add-padded
-overflow_add-padded c =
-    let a = c.args in
-    let long : 64 ≤ a.w.place % 64 + a.width = omega (arith, c.wrapping_add_u64-place.ensures.value, c.if-width-over.false) in
-    let e = stored_eight a.w a.width a.word c.wrapping_add_u64-place.result (c.wrapping_add_u64-place.result % 64) c.padded-2.result c.high.result c.low-taken.result
-    (omega arith) c.wrapping_add_u64-place.ensures.value refl c.if-width-over.false c.padded-2.ensures c.high.ensures c.low-taken.ensures in
-    omega (arith, e, eight_is a.w a.width a.word (omega arith) long)
-
 pub returns-clause-value : goal.returns-clause-value
 returns-clause-value c =
     let a = c.args in
@@ -63,3 +55,11 @@ returns-clause-image_after c =
     c.store_eight.ensures
     ∙ ap₂ (λ (x y : ℕ). stored a.image.now x 8 y) (mul_comm 8 (a.w.place / 64)) e
     ∙ (put_stores a.image.now a.w a.width a.word (omega arith) long (omega (arith, c.if-image-group.false))).1
+
+pub overflow_add-padded : goal.overflow_add-padded
+overflow_add-padded c =
+    let a = c.args in
+    let long : 64 ≤ a.w.place % 64 + a.width = omega (arith, c.wrapping_add_u64-place.ensures.value, c.if-width-over.false) in
+    let e = stored_eight a.w a.width a.word c.wrapping_add_u64-place.result (c.wrapping_add_u64-place.result % 64) c.padded-2.result c.high.result c.low-taken.result
+    (omega arith) c.wrapping_add_u64-place.ensures.value refl c.if-width-over.false c.padded-2.ensures c.high.ensures c.low-taken.ensures in
+    omega (arith, e, eight_is a.w a.width a.word (omega arith) long)
