@@ -141,14 +141,24 @@ def edits():
     return {f"{path.parent.parent.name}/{path.stem}" for path in CRATES.glob("*/must-fail/*.edit")}
 
 
+def crate_of(word):
+    """A crate, by its name or by that of a type that it declares; None for any other word."""
+    if word in listed():
+        return word
+    for path in sorted(CRATES.glob("*/src/**/*.rt")):
+        if re.search(rf"^pub (struct|enum) {word}\b", path.read_text(), re.M):
+            return path.relative_to(CRATES).parts[0]
+    return None
+
+
 def sections():
-    """docs/CONTRACTS.md by its headings `CRATE::FN(...)`, or `Precision::FN(self)` for the crate precision and `Format::FN(self)` for format:
-    for each open call, as (crate, name), the edits that the rows of its table end in."""
+    """docs/CONTRACTS.md by its headings `CRATE::FN(...)`, or `TYPE::FN(...)` for a method: for each open call, as (crate, name), the edits that
+    the rows of its table end in."""
     found = []
     for text in re.split(r"^## ", CONTRACTS.read_text(), flags=re.M)[1:]:
         call = re.match(r"`(\w+)::(\w+)\(.*\)`\n", text)
         if call:
-            found.append(((call[1].lower(), call[2]), re.findall(r"\| `([\w-]+/[\w-]+)` \|$", text, re.M)))
+            found.append(((crate_of(call[1]), call[2]), re.findall(r"\| `([\w-]+/[\w-]+)` \|$", text, re.M)))
     return found
 
 
@@ -157,7 +167,7 @@ def enough_edits():
     calls = [(crate, name) for crate, name, _ in open_functions()]
     listed_calls = [call for call, _ in sections()]
     bad = [f"{crate}::{name}: {calls.count((crate, name))} open functions, {listed_calls.count((crate, name))} sections"
-           for crate, name in sorted({*calls, *listed_calls})
+           for crate, name in sorted({*calls, *listed_calls}, key=str)
            if calls.count((crate, name)) != 1 or listed_calls.count((crate, name)) != 1]
     for (crate, name), rows in sections():
         own = {edit for edit in rows if edit in edits() and edit.split("/")[0] == crate}

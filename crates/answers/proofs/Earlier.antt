@@ -1,73 +1,71 @@
--- Refusals that come before the others, all at place 0, which the code tests by one number: that of the first one that applies, or 0.
+-- Refusals that are tested before the others: what they answer alone is the answer of the whole list where one of them applies, and where none does the
+-- others decide.
 -- Assumes nothing.
-use mathlib.Core.Path.{◌≡◌, refl}
-use mathlib.Core.Bool.{Bool, true, false, cond, not, ◌&&◌, ◌||◌, true≢false}
+use mathlib.Core.Path.{◌≡◌, refl, sym, ap}
+use mathlib.Core.Bool.{Bool, true, false, cond, not, ◌||◌, true≢false}
 use mathlib.Core.List.{List, [], ◌∷◌, ◌++◌}
 use Prim.Native.Nat.{ℕ}
-use lib.Dec.{T, eqb, eqb→eq}
+use lib.Dec.{T, eqb}
 use Rattle.bools.proofs.Bools.{both}
-use Rattle.answers.specs.Refusal.{Refusal, Outcome, outcome, turned_back, some_applies}
-use Rattle.answers.specs.Inner.{first_number}
-use Rattle.answers.proofs.Order.{apart}
+use Rattle.answers.specs.Refusal.{Refusal, Outcome, outcome, turned_back, served, some_applies}
+use Rattle.answers.specs.Answer.{number_of}
+use Rattle.answers.specs.declared.Refused.{Refused}
+use Rattle.answers.specs.declared.Refused.TheVariants.{Precision, Length, Node, FractionBits, Operand, Word, Tail}
+use Rattle.answers.proofs.Order.{apart, numbered}
 
--- each refusal of the list has a number other than 0 and place 0
-abbrev pub is_earlier : List Refusal → Bool
-is_earlier [] = true
-is_earlier (r ∷ rs) = not (eqb r.number 0) && (eqb r.place 0 && is_earlier rs)
-
--- the answer of a refusal of number n at place 0
-abbrev pub limited : ℕ → Outcome
-limited n = record { number = n; place = 0; value = 0 }
-
-refuses_of : (r : Refusal) (m : ℕ) (o : Outcome) (b : Bool) → r.place ≡ 0 → ((m ≡ 0 → ⊥) → o ≡ limited m) → (cond b r.number m ≡ 0 → ⊥) → cond b (turned_back r) o ≡ limited (cond b r.number m)
-refuses_of r m o true p rest h = rw p
-refuses_of r m o false p rest h = rest h
-
-passes_of : (r : Refusal) (m : ℕ) (o q : Outcome) (b : Bool) → T (not (eqb r.number 0)) → (m ≡ 0 → o ≡ q) → cond b r.number m ≡ 0 → cond b (turned_back r) o ≡ q
-passes_of r m o q true n rest h = absurd (apart r.number 0 n h)
-passes_of r m o q false n rest h = rest h
+-- no refusal has number 0
+pub has_number : (why : Refused) → number_of why ≡ 0 → ⊥
+has_number Precision e = apart 1 0 tt e
+has_number Length e = apart 2 0 tt e
+has_number Node e = apart 3 0 tt e
+has_number FractionBits e = apart 4 0 tt e
+has_number Operand e = apart 5 0 tt e
+has_number (Word j) e = apart 6 0 tt e
+has_number (Tail at) e = apart 7 0 tt e
 
 module _ (rs : List Refusal) (v : ℕ) where
-  -- where the number is not 0 it is the answer's
-  pub earlier_refuses : (fs : List Refusal) → T (is_earlier fs) → (first_number fs ≡ 0 → ⊥) → outcome (fs ++ rs) v ≡ limited (first_number fs)
-  earlier_refuses [] t h = absurd (h refl)
-  earlier_refuses (r ∷ fs) t h =
-      let a = both (not (eqb r.number 0)) (eqb r.place 0 && is_earlier fs) t in
-      let b = both (eqb r.place 0) (is_earlier fs) a.1 in
-      refuses_of r (first_number fs) (outcome (fs ++ rs) v) r.applies (eqb→eq r.place 0 b.0) (earlier_refuses fs b.1) h
+  refuses_of : (r : Refusal) (o p q : Outcome) (b : Bool) → (q ≡ o → q ≡ p) → q ≡ cond b (turned_back r) o → q ≡ cond b (turned_back r) p
+  refuses_of r o p q true rest e = e
+  refuses_of r o p q false rest e = rest e
 
-  -- where it is 0 the later refusals decide
-  pub earlier_passes : (fs : List Refusal) → T (is_earlier fs) → first_number fs ≡ 0 → outcome (fs ++ rs) v ≡ outcome rs v
-  earlier_passes [] t h = refl
-  earlier_passes (r ∷ fs) t h =
-      let a = both (not (eqb r.number 0)) (eqb r.place 0 && is_earlier fs) t in
-      let b = both (eqb r.place 0) (is_earlier fs) a.1 in
-      passes_of r (first_number fs) (outcome (fs ++ rs) v) (outcome rs v) r.applies a.0 (earlier_passes fs b.1) h
+  -- an answer with a number that the earlier ones give alone is that of all
+  pub earlier_refuses : (fs : List Refusal) (o : Outcome) → (o.number ≡ 0 → ⊥) → o ≡ outcome fs 0 → o ≡ outcome (fs ++ rs) v
+  earlier_refuses [] o h e = absurd (h (ap (λ (p : Outcome). p.number) e))
+  earlier_refuses (r ∷ fs) o h e = refuses_of r (outcome fs 0) (outcome (fs ++ rs) v) o r.applies (earlier_refuses fs o h) e
 
-none_of : (r : Refusal) (m : ℕ) (b : Bool) → T (not (eqb r.number 0)) → cond b r.number m ≡ 0 → (b ≡ false) × (m ≡ 0)
-none_of r m true n h = absurd (apart r.number 0 n h)
-none_of r m false n h = (refl, h)
+  passes_of : (r : Refusal) (o q : Outcome) (b a : Bool) → (a ≡ false → o ≡ q) → (b || a) ≡ false → cond b (turned_back r) o ≡ q
+  passes_of r o q true a rest e = absurd (true≢false e)
+  passes_of r o q false a rest e = rest e
 
--- and the first of them does not apply, nor do those after it
-pub earlier_none : (r : Refusal) (fs : List Refusal) → T (is_earlier (r ∷ fs)) → first_number (r ∷ fs) ≡ 0 → (r.applies ≡ false) × (first_number fs ≡ 0)
-earlier_none r fs t = none_of r (first_number fs) r.applies (both (not (eqb r.number 0)) (eqb r.place 0 && is_earlier fs) t).0
+  -- where none of them applies the later ones decide
+  pub earlier_passes : (fs : List Refusal) → some_applies fs ≡ false → outcome (fs ++ rs) v ≡ outcome rs v
+  earlier_passes [] e = refl
+  earlier_passes (r ∷ fs) e = passes_of r (outcome (fs ++ rs) v) (outcome rs v) r.applies (some_applies fs) (earlier_passes fs) e
 
--- the number is 0 exactly where none of them applies
-clear_of : (r : Refusal) (m : ℕ) (b a : Bool) → T (not (eqb r.number 0)) → (m ≡ 0 → a ≡ false) → cond b r.number m ≡ 0 → (b || a) ≡ false
-clear_of r m true a n rest h = absurd (apart r.number 0 n h)
-clear_of r m false a n rest h = rest h
+decides_of : (r : Refusal) (o p : Outcome) (b a : Bool) → (a ≡ true → o ≡ p) → (b || a) ≡ true → cond b (turned_back r) o ≡ cond b (turned_back r) p
+decides_of r o p true a rest e = refl
+decides_of r o p false a rest e = rest e
 
-pub earlier_clear : (fs : List Refusal) → T (is_earlier fs) → first_number fs ≡ 0 → some_applies fs ≡ false
-earlier_clear [] t h = refl
-earlier_clear (r ∷ fs) t h =
-    let a = both (not (eqb r.number 0)) (eqb r.place 0 && is_earlier fs) t in
-    let b = both (eqb r.place 0) (is_earlier fs) a.1 in
-    clear_of r (first_number fs) r.applies (some_applies fs) a.0 (earlier_clear fs b.1) h
+-- where one of them applies they decide alone, whatever the later ones are
+pub earlier_decides : (fs rs : List Refusal) (v : ℕ) → some_applies fs ≡ true → outcome (fs ++ rs) v ≡ outcome fs 0
+earlier_decides [] rs v e = absurd (true≢false (sym e))
+earlier_decides (r ∷ fs) rs v e = decides_of r (outcome (fs ++ rs) v) (outcome fs 0) r.applies (some_applies fs) (earlier_decides fs rs v) e
 
-clears_of : (r : Refusal) (m : ℕ) (b a : Bool) → (a ≡ false → m ≡ 0) → (b || a) ≡ false → cond b r.number m ≡ 0
-clears_of r m true a rest e = absurd (true≢false e)
-clears_of r m false a rest e = rest e
+clear_of : (r : Refusal) (o : Outcome) (b a : Bool) → T (not (eqb r.number 0)) → (served 0 ≡ o → a ≡ false) → served 0 ≡ cond b (turned_back r) o → (b || a) ≡ false
+clear_of r o true a n rest e = absurd (apart r.number 0 n (sym (ap (λ (o : Outcome). o.number) e)))
+clear_of r o false a n rest e = rest e
 
-pub clear_earlier : (fs : List Refusal) → some_applies fs ≡ false → first_number fs ≡ 0
-clear_earlier [] e = refl
-clear_earlier (r ∷ fs) e = clears_of r (first_number fs) r.applies (some_applies fs) (clear_earlier fs) e
+-- a call that they alone would serve is one to which none of them applies
+pub earlier_clear : (fs : List Refusal) → T (numbered fs) → served 0 ≡ outcome fs 0 → some_applies fs ≡ false
+earlier_clear [] t e = refl
+earlier_clear (r ∷ fs) t e =
+    let all = both (not (eqb r.number 0)) (numbered fs) t in
+    clear_of r (outcome fs 0) r.applies (some_applies fs) all.0 (earlier_clear fs all.1) e
+
+none_of : (b a : Bool) → (b || a) ≡ false → (b ≡ false) × (a ≡ false)
+none_of true a e = absurd (true≢false e)
+none_of false a e = (refl, e)
+
+-- where none applies neither does the first of them, nor one of those after it
+pub earlier_none : (r : Refusal) (fs : List Refusal) → some_applies (r ∷ fs) ≡ false → (r.applies ≡ false) × (some_applies fs ≡ false)
+earlier_none r fs = none_of r.applies (some_applies fs)

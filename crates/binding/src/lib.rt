@@ -2,13 +2,15 @@
 #![tactic(auto)]
 
 ghost use Rattle.std.specs.Prelude.{◌≡◌};
-ghost use Rattle.answers.specs.Answer.{node_read, reciprocal_given};
+ghost use Rattle.answers.specs.Answer.{outcome_of_node, outcome_of_ulps};
 ghost use Rattle.image.specs.Calls.{node_outcome};
 ghost use Rattle.interpolation.specs.Calls.{reciprocal_outcome};
 ghost use Rattle.binding.specs.Bound.{bound};
 
-use answers::{NodeRead, ReciprocalGiven};
+use answers::Refused;
+use operand::Operand;
 use precision::Precision;
+use units::{TableUnits, Ulps};
 
 // An image and its precision, of which nothing is asked: each call through the table judges both.
 #[derive(Clone, Copy)]
@@ -17,37 +19,39 @@ pub struct BoundTable<'a> {
     pub image: &'a [u8],
 }
 
-// The bound table of a precision and an image, any two.
-pub fn bind<'a>(k: Precision, image: &'a [u8]) -> BoundTable<'a>
-    ensures { result ≡ bound k image.entry }
-{
-    BoundTable { k, image }
+impl<'a> BoundTable<'a> {
+    // The bound table of a precision and an image, any two.
+    pub fn new(k: Precision, image: &'a [u8]) -> BoundTable<'a>
+        ensures { result ≡ bound k image.entry }
+    {
+        BoundTable { k, image }
+    }
+
+    // The value of node j, as `reading::node` gives it.
+    pub fn node(self, j: u32) -> Result<TableUnits, Refused>
+        ensures { outcome_of_node result ≡ node_outcome self.entry.k.0 self.entry.image.now j }
+    {
+        reading::node(self.k, self.image, j)
+    }
+
+    // The reciprocal of an operand, as `inverting::reciprocal` gives it.
+    pub fn reciprocal(self, operand: Operand) -> Result<Ulps, Refused>
+        ensures { outcome_of_ulps result ≡ reciprocal_outcome self.entry.k.0 self.entry.image.now operand.n operand.x }
+    {
+        inverting::reciprocal(self.k, self.image, operand)
+    }
 }
 
-// The value of node j of a bound table, as `reading::node` gives it.
-pub fn node<'a>(table: BoundTable<'a>, j: u32) -> NodeRead
-    ensures { result ≡ node_read (node_outcome table.entry.k.0 table.entry.image.now j) }
+// The value of node j through a bound table, for callers that have a precision and an image, as C has.
+pub fn bound_node(k: Precision, image: &[u8], j: u32) -> Result<TableUnits, Refused>
+    ensures { outcome_of_node result ≡ node_outcome k.0 image.now j }
 {
-    reading::node(table.k, table.image, j)
+    BoundTable::new(k, image).node(j)
 }
 
-// The reciprocal of the operand x, which has n fraction bits, by a bound table, as `inverting::reciprocal` gives it.
-pub fn reciprocal<'a>(table: BoundTable<'a>, n: u32, x: u64) -> ReciprocalGiven
-    ensures { result ≡ reciprocal_given (reciprocal_outcome table.entry.k.0 table.entry.image.now n x) }
+// The reciprocal of an operand through a bound table, for callers that have a precision and an image, as C has.
+pub fn bound_reciprocal(k: Precision, image: &[u8], operand: Operand) -> Result<Ulps, Refused>
+    ensures { outcome_of_ulps result ≡ reciprocal_outcome k.0 image.now operand.n operand.x }
 {
-    inverting::reciprocal(table.k, table.image, n, x)
-}
-
-// The value of node j through a bound table, for callers that have a precision and an image.
-pub fn bound_node(k: Precision, image: &[u8], j: u32) -> NodeRead
-    ensures { result ≡ node_read (node_outcome k.0 image.now j) }
-{
-    node(bind(k, image), j)
-}
-
-// The reciprocal of the operand x through a bound table, for callers that have a precision and an image.
-pub fn bound_reciprocal(k: Precision, image: &[u8], n: u32, x: u64) -> ReciprocalGiven
-    ensures { result ≡ reciprocal_given (reciprocal_outcome k.0 image.now n x) }
-{
-    reciprocal(bind(k, image), n, x)
+    BoundTable::new(k, image).reciprocal(operand)
 }

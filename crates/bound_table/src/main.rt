@@ -2,54 +2,64 @@
 #![tactic(auto)]
 
 ghost use Rattle.std.specs.Prelude.{◌≡◌};
-ghost use Rattle.bound_table.specs.Asked.{asked};
+ghost use Rattle.answers.specs.Answer.{outcome_of_node, outcome_of_ulps};
+ghost use Rattle.image.specs.Calls.{node_outcome};
+ghost use Rattle.interpolation.specs.Calls.{reciprocal_outcome};
 
-use answers::{NodeRead, ReciprocalGiven};
+use answers::Refused;
+use binding::BoundTable;
+use operand::Operand;
 use precision::Precision;
 use std::io;
+use units::{TableUnits, Ulps};
 
 // What one table answers to two operands and the number of a node.
 #[derive(Clone, Copy)]
 struct Answers {
-    first: ReciprocalGiven,
-    second: ReciprocalGiven,
-    node: NodeRead,
+    first: Result<Ulps, Refused>,
+    second: Result<Ulps, Refused>,
+    node: Result<TableUnits, Refused>,
 }
 
-// Binds the image once, and asks the table for the reciprocals of x and y, of n fraction bits, and for node j.
-fn ask(k: Precision, image: &[u8], n: u32, x: u64, y: u64, j: u32) -> Answers
-    ensures { result ≡ asked k image.now n x y j }
+// Binds the image once, and asks the table for the reciprocals of x and y and for node j.
+fn ask(k: Precision, image: &[u8], x: Operand, y: Operand, j: u32) -> Answers
+    ensures first { outcome_of_ulps result.first ≡ reciprocal_outcome k.0 image.now x.n x.x }
+    ensures second { outcome_of_ulps result.second ≡ reciprocal_outcome k.0 image.now y.n y.x }
+    ensures node { outcome_of_node result.node ≡ node_outcome k.0 image.now j }
 {
-    let table = binding::bind(k, image);
-    let first = binding::reciprocal(table, n, x);
-    let second = binding::reciprocal(table, n, y);
-    let node = binding::node(table, j);
+    let table = BoundTable::new(k, image);
     Answers {
-        first,
-        second,
-        node,
+        first: table.reciprocal(x),
+        second: table.reciprocal(y),
+        node: table.node(j),
     }
 }
 
-// A line: the number of a refusal or 0, the place, and the value.
-fn line(rt: &impl Print, number: u32, place: u64, value: u64) -> io::Result<()> {
-    println!(rt; "{number} {place} {value}")
+// A line: the number of a refusal or 0, the place, and the value. The program `cases` has a space before each: one function for both would be the longer.
+fn line(rt: &impl Print, answer: Result<u64, Refused>) -> io::Result<()> {
+    match answer {
+        Ok(value) => println!(rt; "0 0 {value}"),
+        Err(why) => println!(rt; "{} {} 0", why.number(), why.place()),
+    }
 }
 
 // The operands 1 1/4 and 1 3/4, of 7 fraction bits, and node 3 by the image as one of precision 2.
 fn show(rt: &impl Print, image: &[u8]) -> io::Result<()> {
-    let answers = ask(Precision(2), image, 7, 160, 224, 3);
-    let first = answers.first;
-    let second = answers.second;
-    let node = answers.node;
-    line(rt, first.number, first.place, first.value.0)?;
-    line(rt, second.number, second.place, second.value.0)?;
-    line(rt, node.number, node.place, node.value.0)
+    let answers = ask(
+        Precision(2),
+        image,
+        Operand { n: 7, x: 160 },
+        Operand { n: 7, x: 224 },
+        3,
+    );
+    line(rt, answers.first.map(|r| r.0))?;
+    line(rt, answers.second.map(|r| r.0))?;
+    line(rt, answers.node.map(|c| c.0))
 }
 
 fn main(rt: HostRuntime) -> io::Result<()> {
     let mut image = [0u8; 3];
-    building::build(Precision(2), &mut image);
+    let _ = building::build(Precision(2), &mut image);
     show(&rt, &image)?;
     show(&rt, &image[..2])?;
     image[0] = 0;

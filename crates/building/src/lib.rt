@@ -4,14 +4,14 @@
 ghost use Rattle.std.specs.Prelude.{◌≡◌, not, ◌+◌, ◌-◌, ◌*◌, T, length};
 ghost use Rattle.std.specs.Float.Ieee.{is_nan};
 ghost use Rattle.std.specs.Float.Ieee.Positive.{positive};
-ghost use Rattle.answers.specs.Answer.{done};
+ghost use Rattle.answers.specs.Answer.{outcome_of_done};
 ghost use Rattle.packing.specs.Writing.{taken_in, put_bytes, writer_before, bytes_before};
 ghost use Rattle.quotient.specs.Quotient.{rounded_up};
 ghost use Rattle.image.specs.Calls.{build_outcome, build_leaves};
 ghost use Rattle.image.specs.Inner.{quotients};
 ghost use Rattle.building.specs.Inner.{CanFill, IsDivisor};
 
-use answers::Done;
+use answers::Refused;
 use nodes::Quotients;
 use packing::Writer;
 use precision::Precision;
@@ -34,54 +34,39 @@ fn put_word(image: &mut [u8], w: Writer, table: Quotients, i: u32, guess: u32) -
     ensures image_after { image.new ≡ put_bytes image.old w table.width (rounded_up table.numerator i) }
     ensures place_after { result.place ≡ (i + 1 - table.first) * table.width }
 {
-    packing::put(
+    w.put(
         image,
-        w,
         table.width,
         quotient::settled(table.numerator, i, guess),
     )
 }
 
 // Puts the words of a table, from bit place 0 on: numerator / i rounded up, its lowest bits, for each i from `first` on. The divisor runs beside i as a
-// double, for the guesses. The bit place is count × width at the end, and what waits then is left to `finish`.
+// double, for the guesses: a conversion in each turn costs a tenth (tried). The bit place is count × width at the end, and what waits then is left to `finish`.
 fn fill(image: &mut [u8], table: Quotients) -> Writer
     requires { CanFill table (length image.old) }
     ensures writer { result ≡ writer_before table.width (quotients table) table.count }
     ensures bytes { image.new ≡ bytes_before table.width (quotients table) image.old table.count }
     ensures place_after { result.place ≡ table.count * table.width }
 {
-    let past = table.first + table.count;
     let dividend = table.numerator as f64;
     let mut divisor = table.first as f64;
-    let mut w = packing::start();
-    let mut i = table.first;
-    while i < past {
+    let mut w = Writer::start();
+    for i in table.first..table.first + table.count {
         w = put_word(image, w, table, i, guess(dividend, divisor));
-        divisor = divisor + 1.0;
-        i += 1;
+        divisor += 1.0;
     }
     w
 }
 
 // Writes the image of precision k at the front of the buffer, and zeros behind it to the end; on a refusal every byte stays as found.
-pub fn build(k: Precision, image: &mut [u8]) -> Done
-    ensures value { result ≡ done (build_outcome k.0 image.old) }
+pub fn build(k: Precision, image: &mut [u8]) -> Result<(), Refused>
+    ensures value { outcome_of_done result ≡ build_outcome k.0 image.old }
     ensures image_after { image.new ≡ build_leaves k.0 image.old }
 {
-    let number = image::refusal_number(k, image.len());
-    if number != 0 {
-        return Done {
-            number,
-            place: 0,
-            value: 0,
-        };
-    }
-    let w = fill(image, nodes::table(k));
-    let past = packing::finish(image, w);
+    let table = image::table(k, image.len())?;
+    let w = fill(image, table);
+    let past = w.finish(image);
     tail::clear(image, past as usize);
-    Done {
-        number: 0,
-        place: 0,
-        value: 0,
-    }
+    Ok(())
 }

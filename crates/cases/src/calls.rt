@@ -1,100 +1,132 @@
-// One call each: it is made, and what it answered is printed.
-use crate::print::{bytes, line, number};
-use answers::{NodeRead, ReciprocalGiven};
+// The calls: each is made with every number that its line asks for, and what it answers is printed.
+
+use crate::command::{Call, Operands};
+use answers::Refused;
+use operand::Operand;
 use precision::Precision;
 use std::io;
+use std::ops::RangeInclusive;
+use units::Ulps;
 
-fn answer(rt: &impl Print, n: u32, place: u64, value: u64) -> io::Result<()> {
-    number(rt, n as u64)?;
-    number(rt, place)?;
-    line(rt, value)
+// Builds an image in the lent bytes.
+pub(crate) fn build(rt: &impl Print, k: Precision, image: &mut [u8]) -> io::Result<()> {
+    answer(rt, building::build(k, image).map(|()| 0))
 }
 
-pub(crate) fn build(rt: &impl Print, room: &mut [u8], lent: usize, k: u32) -> io::Result<()> {
-    if room.len() < lent {
-        return Ok(());
+// Makes the calls of a line that only prints.
+pub(crate) fn run(rt: &impl Print, call: Call, image: &[u8]) -> io::Result<()> {
+    match call {
+        Call::Precision(ks) => each(rt, ks, |k| limits(rt, Precision(k))),
+        Call::Check(ks) => each(rt, ks, |k| {
+            answer(rt, checking::check(Precision(k), image).map(|()| 0))
+        }),
+        Call::Node(js, k) => each(rt, js, |j| {
+            answer(rt, reading::node(k, image, j).map(|c| c.0))
+        }),
+        Call::Kept(js, k) => each(rt, js, |j| {
+            answer(rt, binding::bound_node(k, image, j).map(|c| c.0))
+        }),
+        Call::Word(js, k) => each(rt, js, |j| bytes(rt, reading::word_bytes(k, image, j))),
+        Call::Rule(js, k) => each(rt, js, |j| {
+            println!(rt; " {}", nodes::value(k, j).map_or(0, |c| c.0))
+        }),
+        Call::Eight(js) => each(rt, js, |j| eight(rt, j)),
+        Call::Invert(xs) => each_operand(xs, |x| {
+            reciprocal(rt, x, inverting::reciprocal(xs.k, image, x))
+        }),
+        Call::Around(xs) => each_operand(xs, |x| {
+            for x in around(x) {
+                reciprocal(rt, x, inverting::reciprocal(xs.k, image, x))?;
+            }
+            Ok(())
+        }),
+        Call::Through(xs) => each_operand(xs, |x| {
+            reciprocal(rt, x, binding::bound_reciprocal(xs.k, image, x))
+        }),
+        Call::Show => bytes(rt, image),
     }
-    let done = building::build(Precision(k), &mut room[0..lent]);
-    answer(rt, done.number, done.place, done.value)
 }
 
-pub(crate) fn check(rt: &impl Print, s: &[u8], k: u32) -> io::Result<()> {
-    let done = checking::check(Precision(k), s);
-    answer(rt, done.number, done.place, done.value)
-}
-
-fn node_answer(rt: &impl Print, r: NodeRead) -> io::Result<()> {
-    answer(rt, r.number, r.place, r.value.0)
-}
-
-pub(crate) fn node(rt: &impl Print, s: &[u8], k: u32, j: u32) -> io::Result<()> {
-    node_answer(rt, reading::node(Precision(k), s, j))
-}
-
-// Reads node j through a bound table.
-pub(crate) fn bound_node(rt: &impl Print, s: &[u8], k: u32, j: u32) -> io::Result<()> {
-    node_answer(rt, binding::bound_node(Precision(k), s, j))
-}
-
-pub(crate) fn word(rt: &impl Print, s: &[u8], k: u32, j: u32) -> io::Result<()> {
-    bytes(rt, reading::word_bytes(Precision(k), s, j))
-}
-
-fn reciprocal_answer(rt: &impl Print, x: u64, r: ReciprocalGiven) -> io::Result<()> {
-    number(rt, x)?;
-    answer(rt, r.number, r.place, r.value.0)
-}
-
-pub(crate) fn reciprocal(rt: &impl Print, s: &[u8], k: u32, n: u32, x: u64) -> io::Result<()> {
-    reciprocal_answer(rt, x, inverting::reciprocal(Precision(k), s, n, x))
-}
-
-// Takes the reciprocal through a bound table.
-pub(crate) fn bound_reciprocal(
+// Makes a call with each number, which is printed first.
+fn each<F: Fn(u32) -> io::Result<()>>(
     rt: &impl Print,
-    s: &[u8],
-    k: u32,
-    n: u32,
-    x: u64,
-) -> io::Result<()> {
-    reciprocal_answer(rt, x, binding::bound_reciprocal(Precision(k), s, n, x))
-}
-
-// The reciprocals of an operand and of both its neighbours, modulo 2^64.
-pub(crate) fn around(rt: &impl Print, s: &[u8], k: u32, n: u32, x: u64) -> io::Result<()> {
-    reciprocal(rt, s, k, n, std::num::wrapping_sub_u64(x, 1))?;
-    reciprocal(rt, s, k, n, x)?;
-    reciprocal(rt, s, k, n, std::num::wrapping_add_u64(x, 1))
-}
-
-// The value of node j by the rule alone, with no image.
-pub(crate) fn rule(rt: &impl Print, k: u32, j: u32) -> io::Result<()> {
-    line(rt, nodes::value(Precision(k), j).0)
-}
-
-// Node j of precision 8: what the call gives, and the entry of the constant list, 0 where there is none.
-pub(crate) fn eight(rt: &impl Print, j: u32) -> io::Result<()> {
-    number(rt, nodes::node_8(j).0)?;
-    line(rt, entry(j) as u64)
-}
-
-fn entry(j: u32) -> u32 {
-    if 256 < j {
-        return 0;
+    numbers: RangeInclusive<u32>,
+    call: F,
+) -> io::Result<()>
+    requires { F.IsAlwaysCallable call }
+{
+    for n in numbers {
+        print!(rt; " {n}")?;
+        call(n)?;
     }
-    nodes::NODES_8[j as usize]
+    Ok(())
+}
+
+// Makes a call with each operand, and with the first one where the line counts none.
+fn each_operand<F: Fn(Operand) -> io::Result<()>>(operands: Operands, call: F) -> io::Result<()>
+    requires { F.IsAlwaysCallable call }
+{
+    let Operand { n, mut x } = operands.first;
+    for _ in 0..operands.count.max(1) {
+        call(Operand { n, x })?;
+        x = x.wrapping_add(operands.step);
+    }
+    Ok(())
+}
+
+// An operand between its neighbours, modulo 2^64.
+fn around(operand: Operand) -> [Operand; 3] {
+    let Operand { n, x } = operand;
+    [x.wrapping_sub(1), x, x.wrapping_add(1)].map(|x| Operand { n, x })
 }
 
 // What a precision says of itself, the limits that are named with it, and the fewest and the most fraction bits of an operand.
-pub(crate) fn precision(rt: &impl Print, k: u32) -> io::Result<()> {
-    let p = Precision(k);
-    number(rt, p.in_range() as u64)?;
-    number(rt, p.word_width())?;
-    number(rt, p.word_count() as u64)?;
-    number(rt, p.image_length() as u64)?;
-    number(rt, Precision::LEAST as u64)?;
-    number(rt, Precision::GREATEST as u64)?;
-    number(rt, Precision::LONGEST_IMAGE as u64)?;
-    number(rt, operand::LEAST_BITS as u64)?;
-    line(rt, operand::MOST_BITS as u64)
+fn limits(rt: &impl Print, k: Precision) -> io::Result<()> {
+    println!(rt;
+        " {} {} {} {} {} {} {} {} {}",
+        u8::from(k.in_range()),
+        k.word_width(),
+        k.word_count().unwrap_or(0),
+        k.image_length().unwrap_or(0),
+        Precision::LEAST,
+        Precision::GREATEST,
+        Precision::LONGEST_IMAGE,
+        operand::LEAST_BITS,
+        operand::MOST_BITS
+    )
+}
+
+// Node j of precision 8: what the call gives, and the entry of the constant list, 0 where there is none.
+fn eight(rt: &impl Print, j: u32) -> io::Result<()> {
+    let entry = nodes::NODES_8.get(j as usize).copied();
+    println!(rt;
+        " {} {}",
+        nodes::node_8(j).map_or(0, |c| c.0),
+        entry.unwrap_or(0)
+    )
+}
+
+// An operand, and what a call answers to it.
+fn reciprocal(rt: &impl Print, operand: Operand, given: Result<Ulps, Refused>) -> io::Result<()> {
+    print!(rt; " {}", operand.x)?;
+    answer(rt, given.map(|r| r.0))
+}
+
+// What a call answers: the number of a refusal or 0, its place, and the value of a served call.
+fn answer(rt: &impl Print, given: Result<u64, Refused>) -> io::Result<()> {
+    match given {
+        Ok(value) => println!(rt; " 0 0 {value}"),
+        Err(why) => println!(rt; " {} {} 0", why.number(), why.place()),
+    }
+}
+
+// Bytes in hex, with a line feed after each 32nd and at the end.
+fn bytes(rt: &impl Print, s: &[u8]) -> io::Result<()> {
+    for (i, b) in s.iter().enumerate() {
+        print!(rt; " {b:02x}")?;
+        if i % 32 == 31 {
+            println!(rt)?;
+        }
+    }
+    println!(rt)
 }

@@ -24,135 +24,52 @@
 // A line whose first word is no command, such as one that begins with '#', is printed alone.
 #![tactic(auto)]
 
-mod buffers;
 mod calls;
-mod print;
-mod script;
+mod command;
+mod room;
 
-ghost use Rattle.std.specs.Prelude.{◌≤◌, length};
-
+use command::Command;
+use room::Room;
 use std::io;
-use std::io::Read;
 
 fn main(rt: HostRuntime) -> io::Result<()> {
-    let mut input = [0u8; 65536];
-    let n = read_full(&mut rt.stdin(), &mut input);
-    let mut room = [0u8; 16384];
-    lines(&rt, &mut room, &input[..n])
+    let mut input = [0; 65536];
+    let n = lines::read_full(&mut rt.stdin(), &mut input);
+    run(&rt, &input[..n])
 }
 
-// Reads until the buffer is full, the input ends or a read fails, and answers how many bytes stand at the front of the buffer.
-fn read_full(input: &mut impl Read, buffer: &mut [u8]) -> usize
-    ensures { result ≤ length buffer.new }
-{
-    let mut done = 0;
-    while done < buffer.len() {
-        match input.read(&mut buffer[done..]) {
-            Ok(0) | Err(_) => break,
-            Ok(n) => done += n,
+// Prints and runs each line that a line feed ends.
+fn run(rt: &impl Print, script: &[u8]) -> io::Result<()> {
+    let mut room = Room::new();
+    for line in script.split_inclusive(|&b| b == b'\n') {
+        let Some(text) = line.strip_suffix(b"\n") else {
+            break;
+        };
+        rt.write_all(line)?;
+        if let Some(command) = Command::parse(text) {
+            obey(rt, &mut room, command)?;
         }
     }
-    done
+    Ok(())
 }
 
-// Runs each line when its line feed is reached.
-fn lines(rt: &impl Print, room: &mut [u8], s: &[u8]) -> io::Result<()> {
-    let mut lent: usize = 0;
-    let mut first: usize = 0;
-    let mut i = 0;
-    while i < s.len() {
-        if s[i] == 10 {
-            lent = run(rt, room, lent, &s[first..i])?;
-            first = i + 1;
+// Runs a command. No call is made where more bytes are lent than the room has.
+fn obey(rt: &impl Print, room: &mut Room, command: Command) -> io::Result<()> {
+    match command {
+        Command::Fill { first, step } => room.fill(first, step),
+        Command::Hex(pairs) => room.put_hex(pairs),
+        Command::Xor { place, mask } => room.flip(place, mask),
+        Command::Length(n) => room.lend(n),
+        Command::Build(k) => {
+            if let Some(image) = room.lent_mut() {
+                calls::build(rt, k, image)?;
+            }
         }
-        i += 1;
+        Command::Print(call) => {
+            if let Some(image) = room.lent() {
+                calls::run(rt, call, image)?;
+            }
+        }
     }
     Ok(())
-}
-
-// Prints a line and runs it, and answers how many bytes are lent after it.
-fn run(rt: &impl Print, room: &mut [u8], lent: usize, line: &[u8]) -> io::Result<usize> {
-    print::text(rt, line)?;
-    if lent <= room.len() {
-        call(rt, &room[0..lent], line)?;
-    }
-    change(rt, room, lent, line)
-}
-
-// A command that changes the room or how much of it is lent, by its place among the words.
-fn change(rt: &impl Print, room: &mut [u8], lent: usize, line: &[u8]) -> io::Result<usize> {
-    let first = script::number(line, 1);
-    let second = script::number(line, 2);
-    match script::place(line, b"hex fill xor length build ") {
-        0 => return Ok(script::hex(line, room)),
-        1 => buffers::fill(room, first, second),
-        2 => buffers::flip(room, first, second),
-        3 => return Ok(first as usize),
-        4 => calls::build(rt, room, lent, first)?,
-        _ => {}
-    }
-    Ok(lent)
-}
-
-// A command that only prints, by its place among the words; `one` and `operand` go by it too.
-fn call(rt: &impl Print, s: &[u8], line: &[u8]) -> io::Result<()> {
-    let place = script::place(
-        line,
-        b"precision check node kept word rule eight invert around through show ",
-    );
-    match place {
-        0..=6 => from(rt, s, line, place),
-        7..=9 => operands(rt, s, line, place),
-        10 => print::bytes(rt, s),
-        _ => Ok(()),
-    }
-}
-
-fn from(rt: &impl Print, s: &[u8], line: &[u8], place: usize) -> io::Result<()> {
-    let last = script::number(line, 2);
-    let k = script::number(line, 3);
-    let mut j = script::number(line, 1);
-    one(rt, s, place, k, j)?;
-    while j < last {
-        j += 1;
-        one(rt, s, place, k, j)?;
-    }
-    Ok(())
-}
-
-fn one(rt: &impl Print, s: &[u8], place: usize, k: u32, j: u32) -> io::Result<()> {
-    print::number(rt, j as u64)?;
-    match place {
-        0 => calls::precision(rt, j),
-        1 => calls::check(rt, s, j),
-        2 => calls::node(rt, s, k, j),
-        3 => calls::bound_node(rt, s, k, j),
-        4 => calls::word(rt, s, k, j),
-        5 => calls::rule(rt, k, j),
-        _ => calls::eight(rt, j),
-    }
-}
-
-fn operands(rt: &impl Print, s: &[u8], line: &[u8], place: usize) -> io::Result<()> {
-    let k = script::number(line, 1);
-    let n = script::number(line, 2);
-    let mut x = script::long(line, 3);
-    let count = script::number(line, 4);
-    let step = script::long(line, 5);
-    let mut made = 1;
-    operand(rt, s, place, k, n, x)?;
-    while made < count {
-        x = std::num::wrapping_add_u64(x, step);
-        operand(rt, s, place, k, n, x)?;
-        made += 1;
-    }
-    Ok(())
-}
-
-fn operand(rt: &impl Print, s: &[u8], place: usize, k: u32, n: u32, x: u64) -> io::Result<()> {
-    match place {
-        7 => calls::reciprocal(rt, s, k, n, x),
-        8 => calls::around(rt, s, k, n, x),
-        _ => calls::bound_reciprocal(rt, s, k, n, x),
-    }
 }

@@ -1,13 +1,12 @@
--- Two words in one reading, and what the test by a product says of each.
+-- Two words in one reading, and how each is judged.
 -- Assumes nothing.
-use mathlib.Core.Path.{◌≡◌, sym, ap, ◌∙◌}
-use mathlib.Core.Bool.{Bool, not}
+use mathlib.Core.Path.{◌≡◌, ap, ◌∙◌}
 use mathlib.Core.List.{List}
 use Prim.Native.Nat.{ℕ, ◌+◌, ◌*◌, ◌/◌, ◌%◌, ◌^◌, ◌≤◌, ◌<◌}
 use native.Mathlib.Omega.{arith}
 use lib.Pow.{pow_mono}
-use Rattle.quotient.specs.Inner.{numerator_bits, rounds_up}
-use Rattle.nodes.specs.Nodes.{decode_under}
+use Rattle.std.specs.Option.{is_none}
+use Rattle.nodes.specs.Inner.{judged_word}
 use Rattle.nodes.specs.declared.Quotients.{Quotients}
 use Rattle.packing.specs.Packing.{Bytes, word_at}
 use Rattle.packing.specs.Inner.{field_read}
@@ -32,13 +31,6 @@ module _ {t : Quotients} (p : AreWords t) (s : List ℕ) where
     pub second_of : field_read s (j * t.width) (2 * t.width) % 2 ^ t.width ≡ word_at t.width s (j + 1)
     second_of = ap (λ (x : ℕ). x % 2 ^ t.width) (field_there s (j * t.width) (2 * t.width) p.two) ∙ words_low t.width s j bytes p.one
 
-  -- v, the test by a product of what word j stands for, says whether the word is wrong
-  module _ (j : ℕ) (h : j < t.count) {v : Bool} {word value : ℕ} (is : word ≡ word_at t.width s j) (d : value ≡ decode_under t.lead j word) (e : v ≡ rounds_up (numerator_bits t.numerator) (t.first + j) value) where
-    pub test_tells : is_wrong (layout_of t) s j ≡ not v
-    test_tells =
-        ap not
-        (sym
-        (e
-        ∙ ap (λ (M : ℕ). rounds_up M (t.first + j) value) p.numerator
-        ∙ ap (rounds_up t.numerator (t.first + j)) (d ∙ ap (decode_under t.lead j) is)
-        ∙ p.judges j (word_at t.width s j) h (word_lt t.width s j)))
+  -- whether none is given for word j says whether it is wrong
+  pub judged_tells : (j : ℕ) → j < t.count → {word : ℕ} → word ≡ word_at t.width s j → is_none (judged_word t j word) ≡ is_wrong (layout_of t) s j
+  judged_tells j h is = ap (λ (w : ℕ). is_none (judged_word t j w)) is ∙ p.judges j (word_at t.width s j) h (word_lt t.width s j)

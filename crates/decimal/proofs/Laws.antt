@@ -10,10 +10,12 @@ use native.Mathlib.Omega.{arith}
 use borrow.Author.Tests.{lt-ltb, le-ltb, le-leb, leb-true}
 use lib.Dec.{leb, ltb}
 use lib.ListN.{length, length-append}
+use Rattle.std.specs.Prelude.{Some, None}
+use Rattle.std.specs.Fmt
+use Rattle.std.proofs.lemmas.Fmt.{decimal_from_appends, length-decimal-le}
 use Rattle.bools.proofs.Bools.{below_or_not}
 use Rattle.decimal.specs.Decimal.{digits, decimal, is_digit, all_digits, is_digits, value_from, decimal_value}
 use Rattle.decimal.specs.Reading.{reading}
-use Rattle.decimal.specs.declared.Reading.TheVariants.{Number, Other}
 
 -- the two cases of a number's digits
 digits_small : (d n : ℕ) → n < 10 → digits (suc d) n ≡ (48 + n) ∷ []
@@ -59,18 +61,11 @@ digits_below (suc e) (suc d) n h =
     ⊎_elim (λ l. rw (digits_small e n l) (omega arith))
     (λ l. rw (digits_large e n l, length-append) (omega (arith, digits_below e d (n / 10) (tenth_below (suc d) n h)))) (below_or_not n 10)
 
--- the digits of a number below ten, and of a larger one: those of its tenth and one more
-pub decimal_small : (n : ℕ) → n < 10 → decimal n ≡ (48 + n) ∷ []
+-- std's decimal digits of a number of 64 bits are its digits here
+pub decimal-std : (n : ℕ) → n < 2 ^ 64 → Fmt.decimal n ≡ decimal n
 unfolding decimal
-decimal_small n h = digits_small 19 n h
-
-pub decimal_large : (n : ℕ) → 10 ≤ n → n < 10 ^ 20 → decimal n ≡ decimal (n / 10) ++ ((48 + n % 10) ∷ [])
-unfolding decimal
-decimal_large n l h =
-    digits_large 19 n l ∙ ap (λ (s : List ℕ). s ++ ((48 + n % 10) ∷ [])) (sym (digits_enough 18 (n / 10) (tenth_below 19 n h)))
-
-pub length_large : (n : ℕ) → 10 ≤ n → n < 10 ^ 20 → length (decimal n) ≡ length (decimal (n / 10)) + 1
-length_large n l h = ap length (decimal_large n l h) ∙ length-append (decimal (n / 10)) ((48 + n % 10) ∷ [])
+decimal-std n h =
+    sym (decimal_from_appends digits (record { one = digits_small; more = digits_large }) 20 n h (length-decimal-le 20 n (omega arith) (omega arith) h))
 
 -- twenty digits at most, for every number
 pub length-decimal : (n : ℕ) → length (decimal n) ≤ 20
@@ -174,10 +169,10 @@ is_some [] p = absurd (true≢false (sym p))
 is_some (b ∷ s) p = omega arith
 
 -- what was read as a number is digits that stand for it
-pub reading_number : (s : List ℕ) (v : ℕ) → reading s ≡ Number v → (is_digits s ≡ true) × (decimal_value s ≡ v)
+pub reading_number : (s : List ℕ) (v : ℕ) → reading s ≡ Some v → (is_digits s ≡ true) × (decimal_value s ≡ v)
 reading_number s v e = go (is_digits s) (ltb (decimal_value s) (2 ^ 64)) refl e
   where
-    go : (x y : Bool) → is_digits s ≡ x → cond (x && y) (Number (decimal_value s)) Other ≡ Number v → (is_digits s ≡ true) × (decimal_value s ≡ v)
+    go : (x y : Bool) → is_digits s ≡ x → cond (x && y) (Some (decimal_value s)) None ≡ Some v → (is_digits s ≡ true) × (decimal_value s ≡ v)
     go true true p q = (p, cc)
     go true false p q = absurd (let z : ◌≡◌ {A = ℕ} 0 1 = cc in omega arith)
     go false y p q = absurd (let z : ◌≡◌ {A = ℕ} 0 1 = cc in omega arith)

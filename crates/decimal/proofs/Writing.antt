@@ -1,17 +1,18 @@
--- Laws of text written at a place: its length, pieces written one after the other, and one byte as a store.
+-- Laws of text written at a place, its length and pieces written one after the other; and what calls that put text leave.
 -- Assumes nothing.
-use mathlib.Core.Path.{◌≡◌, refl, sym, ap, ◌∙◌}
-use mathlib.Core.Bool.{Bool, true, false}
-use mathlib.Core.List.{List, [], ◌∷◌, ◌++◌, append_assoc, append-nil}
-use Prim.Native.Nat.{ℕ, ◌+◌, ◌≤◌, ◌<◌}
-use native.Mathlib.Nat.{add_assoc, add-zero}
-use native.Mathlib.Numerals.{add-one}
+use mathlib.Core.Path.{◌≡◌, sym, ap, ◌∙◌}
+use mathlib.Core.Bool.{Bool, true}
+use mathlib.Core.List.{List, ◌++◌, append_assoc}
+use Prim.Native.Nat.{ℕ, ◌+◌, ◌≤◌}
+use native.Mathlib.Nat.{add_assoc}
 use native.Mathlib.Omega.{arith}
-use lib.ListN.{length, take, drop, set, length-append, length-drop, take-append-drop}
-use lib.Seq.{length-take-le, take_at, drop-append-add, drop-drop, set_split, paste, take-length, append_snoc}
-use borrow.Author.Tests.{le-leb, lt-leb, leb-true, leb-false}
+use lib.ListN.{length, take, drop, length-append, length-drop}
+use lib.Seq.{length-take-le, take_at, drop-append-add, drop-drop}
+use borrow.Rule.Slice.PartMut.{put_mid}
+use borrow.Author.Tests.{le-leb, leb-true}
 use Rattle.decimal.specs.Text.{written}
-use Rattle.decimal.specs.Inner.{has_room, put_into, place_after, Wrote}
+use Rattle.decimal.specs.declared.text.Text.{Text}
+use Rattle.decimal.specs.Inner.{has_room, Room, Puts, Wrote}
 
 module _ (s : List ℕ) (at : ℕ) (t : List ℕ) (fits : at + length t ≤ length s) where
   -- what stands up to the end of the text
@@ -35,64 +36,41 @@ module _ (s : List ℕ) (at : ℕ) (t : List ℕ) (fits : at + length t ≤ leng
       ∙ ap (λ (n : ℕ). drop n s) (add_assoc at (length t) (length u) ∙ ap (λ (n : ℕ). at + n) (sym (length-append t u))))
       ∙ ap (λ (r : List ℕ). r ++ drop (at + length (t ++ u)) s) (append_assoc (take at s) t u))
 
--- one byte written is one store
-pub written_one : (s : List ℕ) (at b : ℕ) → at < length s → written s at (b ∷ []) ≡ set s at b
+-- t in place of the bytes of s from `at` on, as many as t has, is t written
+pub copied_written : (s : List ℕ) (at : ℕ) (t : List ℕ) {k : ℕ} {u : List ℕ} → k ≡ length t → u ≡ t → put_mid at k s u ≡ written s at t
 unfolding written
-written_one s at b h = rw (add-one, set_split s at b h, append_snoc)
+copied_written s at t h e = rw (h, e, drop-drop) (sym (append_assoc (take at s) t (drop (at + length t) s)))
 
--- one byte more after a text is a store at the place after it
-pub written_snoc : (s : List ℕ) (at : ℕ) (t : List ℕ) (b : ℕ) → at + length t < length s → set (written s at t) (at + length t) b ≡ written s at (t ++ (b ∷ []))
-written_snoc s at t b h =
-    sym (written_one (written s at t) (at + length t) b (rw (length-written s at t (omega arith)) h))
-    ∙ written_more s at t (omega arith) (b ∷ [])
+-- what a test of room says where it passed
+pub room_fits : (s : Text) (n : ℕ) {room : Bool} → room ≡ has_room s n → room ≡ true → Room s n
+room_fits s n e p = leb-true (s.at + n) (length s.out.now) (sym e ∙ p)
 
--- no text changes nothing
-pub written_none : (s : List ℕ) (at : ℕ) → written s at [] ≡ s
-unfolding written
-written_none s at = rw (add-zero, append-nil) (take-append-drop at s)
+-- where there is room for n bytes, a call that asks for it writes its text, and nothing else is asked of it
+module _ {s : Text} {n : ℕ} {t : List ℕ} {r : Text} where
+  pub puts_room : Room s n → Puts s n t r → Wrote s t r
+  puts_room h p =
+      let e = le-leb (s.at + n) (length s.out.now) h in
+      record { same = p.same; place = rw e at p.place; bytes = rw e at p.bytes }
 
--- a copy of all of t is t written
-pub paste_written : (s : List ℕ) (at : ℕ) (t : List ℕ) → paste s at t (length t) ≡ written s at t
-unfolding written
-paste_written s at t = rw take-length
+  pub wrote_puts : Room s n → Wrote s t r → Puts s n t r
+  wrote_puts h w =
+      let e = le-leb (s.at + n) (length s.out.now) h in
+      record { same = w.same; place = rw e w.place; bytes = rw e w.bytes }
 
--- what a test of room says, where it passed and where it failed
-module _ (s : List ℕ) (at n : ℕ) {room : Bool} (e : room ≡ has_room s at n) where
-  pub room_fits : room ≡ true → at + n ≤ length s
-  room_fits p = leb-true (at + n) (length s) (sym e ∙ p)
+module _ {s : Text} {t : List ℕ} {p : Text} (h : Room s (length t)) (w : Wrote s t p) where
+  -- what was written takes its room
+  pub room_left : (m : ℕ) → Room s (length t + m) → Room p m
+  room_left m l = omega (arith, w.place, ap length w.bytes, length-written s.out.now s.at t h)
 
-  pub room_lacks : room ≡ false → length s < at + n
-  room_lacks f = leb-false (at + n) (length s) (sym e ∙ f)
+  -- two calls wrote the two texts as one
+  pub wrote_more : {u : List ℕ} {q : Text} → Wrote p u q → Wrote s (t ++ u) q
+  wrote_more {u} {q} v =
+      record {
+        same = v.same ∙ w.same;
+        place = omega (arith, v.place, w.place, length-append t u);
+        bytes = v.bytes ∙ ap (λ (x : List ℕ). written x p.at u) w.bytes ∙ ap (λ (n : ℕ). written (written s.out.now s.at t) n u) w.place ∙ written_more s.out.now s.at t h u;
+      }
 
--- a call that asks for room for n bytes keeps its promise where it finds none and changes nothing, and where it finds it and writes its text
-module _ (s : List ℕ) (at n : ℕ) where
-  pub put_none : (t : List ℕ) → length s < at + n → (at ≡ place_after s at n t) × (s ≡ put_into s at n t)
-  put_none t h = rw (lt-leb (at + n) (length s) h) (refl, refl)
-
-  pub put_some : {t : List ℕ} {r : ℕ} {o : List ℕ} → at + n ≤ length s → Wrote s at t r o → (r ≡ place_after s at n t) × (o ≡ put_into s at n t)
-  put_some h w = rw (le-leb (at + n) (length s) h) (w.place, w.bytes)
-
--- such a call wrote its text where it found room
-pub wrote_room : (s : List ℕ) (at n : ℕ) (t : List ℕ) {r : ℕ} {o : List ℕ} → at + n ≤ length s → r ≡ place_after s at n t → o ≡ put_into s at n t → Wrote s at t r o
-wrote_room s at n t h p b =
-    record { place = rw (le-leb (at + n) (length s) h) at p; bytes = rw (le-leb (at + n) (length s) h) at b }
-
--- two calls, the second at the place that the first gave, wrote the two texts as one
-pub wrote_more : {s : List ℕ} {at : ℕ} {t : List ℕ} {p : ℕ} {o u : List ℕ} {q : ℕ} {o' : List ℕ} → at + length t ≤ length s → Wrote s at t p o → Wrote o p u q o' → Wrote s at (t ++ u) q o'
-wrote_more {s} {at} {t} {p} {o} {u} {q} {o'} h a b =
-    record {
-      place = b.place ∙ ap (λ (n : ℕ). n + length u) a.place ∙ add_assoc at (length t) (length u) ∙ ap (λ (n : ℕ). at + n) (sym (length-append t u));
-      bytes = b.bytes ∙ ap (λ (x : List ℕ). written x p u) a.bytes ∙ ap (λ (n : ℕ). written (written s at t) n u) a.place ∙ written_more s at t h u;
-    }
-
--- a store at the place that a call gave is one byte more of its text
-pub wrote_byte : {s : List ℕ} {at : ℕ} {t : List ℕ} {r : ℕ} {o : List ℕ} (b : ℕ) → at + length t < length s → Wrote s at t r o → Wrote s at (t ++ (b ∷ [])) (r + 1) (set o r b)
-wrote_byte {s} {at} {t} {r} {o} b h w =
-    record {
-      place = omega (arith, w.place, length-append t (b ∷ []));
-      bytes = ap (λ (x : List ℕ). set x r b) w.bytes ∙ ap (λ (p : ℕ). set (written s at t) p b) w.place ∙ written_snoc s at t b h;
-    }
-
--- no text was written, at any place, where nothing was changed
-pub wrote_none : (s : List ℕ) (at : ℕ) → Wrote s at [] at s
-wrote_none s at = record { place = omega arith; bytes = sym (written_none s at) }
+  -- so did a call after it that asks for room
+  pub wrote_then : {u : List ℕ} {n : ℕ} {q : Text} → Room s (length t + n) → Puts p n u q → Wrote s (t ++ u) q
+  wrote_then {n = n} l v = wrote_more (puts_room (room_left n l) v)

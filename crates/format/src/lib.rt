@@ -2,14 +2,14 @@
 // the words and the length of the image.
 #![tactic(auto)]
 
-ghost use Rattle.std.specs.Prelude.{◌≡◌};
-ghost use Rattle.precision.specs.Precision.{greatest};
-ghost use Rattle.format.specs.Format.{plain_of, full_of, form_of, format_of, image_length, length_or_0, word_width, words_or_0};
+ghost use Rattle.std.specs.Prelude.{◌≡◌, if◌then◌else◌};
+ghost use Rattle.precision.specs.Precision.{greatest, in_range};
+ghost use Rattle.format.specs.Format.{plain_of, full_of, form_of, format_of, image_length, precision_of, word_count, word_width};
 
 use precision::Precision;
 
 // How the words of an image hold the nodes.
-#[derive(Clone, Copy)]
+#[derive(Clone, Copy, PartialEq, Eq, Debug)]
 pub enum Form {
     // Words of 2k + 2 bits, which leave the leading one out, for the nodes below 2^k.
     Plain,
@@ -18,13 +18,14 @@ pub enum Form {
 }
 
 // A table as it is asked for. Any precision can be asked for; 1 to 12 are served.
-#[derive(Clone, Copy)]
+#[derive(Clone, Copy, PartialEq, Eq, Debug)]
 pub struct Format {
     pub precision: Precision,
     pub form: Form,
 }
 
-// The same as C hands it over, in plain numbers: form 0 is plain, and any other number is full.
+// The same as C hands it over: form 0 is plain, and any other number is full. It stays a struct of plain numbers, since C has no enum of Rattle's and may
+// hand over any number.
 #[repr(C)]
 #[derive(Clone, Copy)]
 pub struct FormatNumbers {
@@ -34,7 +35,7 @@ pub struct FormatNumbers {
 
 impl Format {
     // The bytes of the longest image of plain words, that of the greatest precision.
-    pub const LONGEST_PLAIN: usize = 13312;
+    pub const LONGEST_PLAIN: usize = Precision::LONGEST_IMAGE;
     // The bytes of the longest image of full words.
     pub const LONGEST_FULL: usize = 14340;
 
@@ -63,65 +64,57 @@ impl Format {
         ensures { result ≡ word_width self }
     {
         let plain = self.precision.word_width();
-        let form = self.form;
-        match form {
+        match self.form {
             Form::Plain => plain,
             Form::Full => plain + 2,
         }
     }
 
-    // The words of the image, 2^k plain and 2^k + 1 full, and 0 where the precision is none.
-    pub fn word_count(self) -> u32
-        ensures { result ≡ words_or_0 self }
+    // The words of the image, 2^k plain and 2^k + 1 full, and None where the precision is none.
+    pub fn word_count(self) -> Option<u32>
+        ensures { result ≡ (if in_range (precision_of self) then Some (word_count self) else None) }
     {
-        let plain = self.precision.word_count();
-        if plain == 0 {
-            return 0;
-        }
-        let form = self.form;
-        match form {
+        let plain = self.precision.word_count()?;
+        Some(match self.form {
             Form::Plain => plain,
             Form::Full => plain + 1,
-        }
+        })
     }
 
-    // The bytes of the image, 0 where the precision is none. The plain lengths are those of the constant list.
-    pub fn image_length(self) -> usize
-        ensures value { result ≡ length_or_0 self }
+    // The bytes of the image, None where the precision is none. The plain lengths are those of the constant list.
+    pub fn image_length(self) -> Option<usize>
+        ensures value { result ≡ (if in_range (precision_of self) then Some (image_length self) else None) }
         ensures longest_plain { Format.LONGEST_PLAIN ≡ image_length (plain_of greatest) }
         ensures longest_full { Format.LONGEST_FULL ≡ image_length (full_of greatest) }
     {
-        let count = self.word_count();
-        if count == 0 {
-            return 0;
-        }
-        let form = self.form;
-        match form {
+        let count = self.word_count()?;
+        match self.form {
             Form::Plain => self.precision.image_length(),
-            Form::Full => packing::byte_count(self.word_width() as u32, count) as usize,
+            Form::Full => Some(packing::byte_count(self.word_width() as u32, count) as usize),
         }
     }
 }
 
-// The form that a number stands for.
-fn form_of(number: u32) -> Form
-    ensures { result ≡ form_of number }
-{
-    if number == 0 {
-        return Form::Plain;
+// The form that a number of C stands for.
+impl From<u32> for Form {
+    ghost from_gives = { λ n f. f ≡ form_of n };
+
+    fn from(number: u32) -> Form {
+        match number {
+            0 => Form::Plain,
+            _ => Form::Full,
+        }
     }
-    Form::Full
 }
 
-impl FormatNumbers {
-    // The format that the numbers stand for.
-    pub fn format(self) -> Format
-        ensures { result ≡ format_of self }
-    {
-        let form = form_of(self.form);
+// The format that the numbers of C stand for.
+impl From<FormatNumbers> for Format {
+    ghost from_gives = { λ n f. f ≡ format_of n };
+
+    fn from(numbers: FormatNumbers) -> Format {
         Format {
-            precision: Precision(self.precision),
-            form,
+            precision: Precision(numbers.precision),
+            form: Form::from(numbers.form),
         }
     }
 }

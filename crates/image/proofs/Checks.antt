@@ -1,20 +1,21 @@
 -- The answer of the check where both limits are kept: the lowest wrong word first, then the lowest byte with a one behind the words, then none.
 -- Assumes nothing.
 use mathlib.Core.Path.{◌≡◌, ◌∙◌}
+use mathlib.Core.Bool.{false}
 use mathlib.Core.List.{List, [], ◌∷◌}
 use Prim.Native.Nat.{ℕ, ◌^◌, ◌≤◌, ◌<◌}
 use lib.ListN.{length}
 use borrow.Author.Tests.{lt-ltb, le-ltb}
-use Rattle.answers.specs.Refusal.{outcome, served}
+use Rattle.answers.specs.Refusal.{outcome, served, some_applies}
 use Rattle.answers.proofs.Order.{applied, passed}
 use Rattle.layout.specs.Layout.{first_wrong, first_past}
 use Rattle.layout.specs.Refusals.{image_refusal, tail_refusal}
 use Rattle.image.specs.Image.{plain}
+use Rattle.image.specs.Refusals.{limits}
 use Rattle.image.specs.Calls.{check_outcome}
-use Rattle.image.specs.Inner.{refusal_number}
 use Rattle.image.proofs.Limits.{limit_passes}
 
-module _ (k : ℕ) (s : List ℕ) (limit : refusal_number k (length s) ≡ 0) where
+module _ (k : ℕ) (s : List ℕ) (limit : some_applies (limits k (length s)) ≡ false) where
   decides : check_outcome k s ≡ outcome (image_refusal (plain k) s ∷ tail_refusal (plain k) s ∷ []) 0
   decides = limit_passes k s (image_refusal (plain k) s ∷ tail_refusal (plain k) s ∷ []) 0 limit
 

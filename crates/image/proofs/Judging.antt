@@ -2,16 +2,18 @@
 -- the answer of reading a node.
 -- Assumes nothing.
 use mathlib.Core.Path.{◌≡◌, refl, sym, ap, ◌∙◌}
-use mathlib.Core.Bool.{Bool, true, false, not, ◌&&◌}
+use mathlib.Core.Bool.{Bool, true, false, cond, not, ◌&&◌}
 use mathlib.Core.List.{List, [], ◌∷◌}
 use Prim.Native.Nat.{ℕ, ◌+◌, ◌^◌, ◌≤◌, ◌<◌}
 use native.Mathlib.Omega.{arith}
 use lib.Dec.{ltb}
 use borrow.Author.Tests.{lt-ltb, le-ltb, ltb-true, ltb-false}
+use Rattle.std.proofs.Common.{Some, None}
 use Rattle.precision.specs.Precision.{word_width}
 use Rattle.quotient.specs.Inner.{rounds_up}
 use Rattle.nodes.specs.Nodes.{numerator, node, leading_one, decode_under}
-use Rattle.nodes.proofs.Nodes.{word_judged, decode_before, decode_right, decode_last}
+use Rattle.nodes.specs.Inner.{quotients_of, judged_word}
+use Rattle.nodes.proofs.Nodes.{judged_is, word_judged, decode_before, decode_right, decode_last}
 use Rattle.packing.proofs.Words.{word_lt}
 use Rattle.answers.specs.Refusal.{outcome, served}
 use Rattle.answers.proofs.Order.{applied, passed}
@@ -20,6 +22,11 @@ use Rattle.layout.specs.Refusals.{word_refusal}
 use Rattle.layout.proofs.Laws.{not_wrong}
 use Rattle.image.specs.Image.{plain, word_of, node_of}
 use Rattle.image.specs.Refusals.{node_refusal}
+
+-- a choice by a test and one by its opposite
+turned : {A : Type 0} (x y : A) (b d : Bool) → d ≡ not b → cond b x y ≡ cond d y x
+turned x y true d e = rw e refl
+turned x y false d e = rw e refl
 
 -- the word of a node below 2^k
 module _ (k : ℕ) (s : List ℕ) (j : ℕ) (h : j < 2 ^ k) where
@@ -33,6 +40,14 @@ module _ (k : ℕ) (s : List ℕ) (j : ℕ) (h : j < 2 ^ k) where
   -- and it is what reading gives
   pub word_value : decode_under (leading_one k) j (word_of k s j) ≡ node_of k s j
   word_value = sym (decode_before k j (word_of k s j) h)
+
+  -- so what code gives for it is that, and none where the word is wrong
+  pub word_given : k ≤ 12 → judged_word (quotients_of k) j (word_of k s j) ≡ cond (is_wrong (plain k) s j) None (Some (record { 0 = node_of k s j }))
+  word_given high =
+      let narrow = word_lt (word_width k) s j in
+      judged_is k high j (word_of k s j) (omega (arith, h)) narrow
+      ∙ turned _ _ (rounds_up (numerator k) (2 ^ k + j) (decode_under (leading_one k) j (word_of k s j))) (is_wrong (plain k) s j) (word_tells refl)
+      ∙ ap (λ (c : ℕ). cond (is_wrong (plain k) s j) None (Some (record { 0 = c }))) word_value
 
 -- a word that is read and not wrong stands for the node; node 2^k has none and is the node in any case
 pub right_node : (k : ℕ) (s : List ℕ) (j : ℕ) → j ≤ 2 ^ k → (word_refusal (plain k) s j).applies ≡ false → node_of k s j ≡ node k j

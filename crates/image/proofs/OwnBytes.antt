@@ -13,11 +13,11 @@ use Rattle.layout.proofs.Laws as layouts
 use Rattle.image.specs.Image.{plain, word_of}
 use Rattle.image.specs.Inner.{own_bytes}
 use Rattle.image.proofs.Laws.{plain_fits}
-use Rattle.image.proofs.Limits.{ImageKept, limit_none}
+use Rattle.image.proofs.Limits.{ImageKept, kept_clear}
 
 module _ (k : ℕ) (s : List ℕ) (kept : ImageKept k s) where
   pub own_taken : own_bytes k s ≡ take (image_length k) s
-  own_taken = rw (limit_none k s kept.low kept.high kept.long)
+  own_taken = rw (kept_clear k s kept)
 
   pub own_length : length (own_bytes k s) ≡ image_length k
   own_length = ap length own_taken ∙ length-take (image_length k) s ∙ omega (arith, kept.long)

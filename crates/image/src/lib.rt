@@ -1,39 +1,43 @@
 // The image of a precision: what it is stands in specs/, and here are the limits that every call on an image tests first, and the image's own bytes in
-// a buffer.
+// a buffer. Every plain call takes k and the buffer as two parameters, since the bound table (crate `binding`) is where they are kept together.
 #![tactic(auto)]
 
-ghost use Rattle.std.specs.Prelude.{◌≡◌};
-ghost use Rattle.image.specs.Inner.{refusal_number, own_bytes};
+ghost use Rattle.std.specs.Prelude.{◌≡◌, IfOk};
+ghost use Rattle.answers.specs.Refusal.{outcome};
+ghost use Rattle.answers.specs.Answer.{outcome_of};
+ghost use Rattle.nodes.specs.Inner.{quotients_of};
+ghost use Rattle.image.specs.Refusals.{limits};
+ghost use Rattle.image.specs.Inner.{own_bytes};
 
+use answers::Refused;
+use nodes::Quotients;
 use precision::Precision;
 
-// The number of the refusal, 1 or 2, of precision k and a buffer of `length` bytes, and 0 where neither applies. The bytes of the image are computed and
-// not looked up: indexing the list of lengths rebuilds it.
-pub fn refusal_number(k: Precision, length: usize) -> u32
-    ensures { result ≡ refusal_number k.0 length }
+// The numbers of the table of precision k, where a buffer of `length` bytes has room for its image; else the first of refusals 1 and 2 that applies. The
+// bytes of the image are computed and not looked up: indexing the list of lengths rebuilds it.
+pub fn table(k: Precision, length: usize) -> Result<Quotients, Refused>
+    ensures refusals { outcome_of (λ _. 0) result ≡ outcome (limits k.0 length) 0 }
+    ensures numbers { IfOk result (λ t. t ≡ quotients_of k.0) }
 {
-    let table = nodes::table(k);
-    if table.count == 0 {
-        return 1;
-    }
+    let table = nodes::table(k).ok_or(Refused::Precision)?;
     if (length as u64) < packing::byte_count(table.width, table.count) {
-        return 2;
+        return Err(Refused::Length);
     }
-    0
+    Ok(table)
 }
 
 // The image's own bytes, the front of the buffer; none where k is no precision or the buffer is too short. Words are read from these alone, so that
-// no byte past the image is taken for a part of one; only the check looks at what follows, by the crate `tail`. The promise has the bytes, and that
+// no byte past the image is taken for a part of one; only the check looks at what follows, by the crate `tail`. The limits are tested here too, so that
+// nothing is asked of a caller; of both tests the compiler makes one. The promise has the bytes, and that
 // they stand where the buffer does.
 pub fn own_bytes(k: Precision, image: &[u8]) -> &[u8]
     ensures bytes { result.now ≡ own_bytes k.0 image.now }
     ensures same_buffer { result.ref_ptr.0 ≡ image.entry.ref_ptr.0 }
     ensures same_place { result.ref_ptr.1 ≡ image.entry.ref_ptr.1 }
 {
-    if refusal_number(k, image.len()) != 0 {
+    let Ok(table) = table(k, image.len()) else {
         return &image[..0];
-    }
-    let table = nodes::table(k);
+    };
     let past = packing::byte_count(table.width, table.count) as usize;
     &image[..past]
 }

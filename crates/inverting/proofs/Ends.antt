@@ -1,12 +1,11 @@
--- The answer by both words of a piece is that of the buffer; and what one number stands for.
+-- The answer by both words of a piece is that of the buffer.
 -- Assumes nothing.
-use mathlib.Core.Path.{◌≡◌, sym, ap, ap₂, ◌∙◌}
+use mathlib.Core.Path.{◌≡◌, sym, ap₂, ◌∙◌}
 use mathlib.Core.Bool.{Bool, true, false, cond, not}
 use mathlib.Core.List.{List}
 use Prim.Native.Nat.{ℕ, ◌+◌, ◌-◌, ◌*◌, ◌/◌, ◌^◌, ◌≤◌, ◌<◌}
 use native.Mathlib.Omega.{arith}
 use lib.Pow.{shr_lt}
-use borrow.Author.Tests.{lt-ltb, le-ltb}
 use Rattle.precision.specs.Precision.{word_width}
 use Rattle.packing.specs.Packing.{Bytes}
 use Rattle.answers.specs.Refusal.{served}
@@ -19,7 +18,7 @@ use Rattle.interpolation.specs.Inner.{cut_outcome}
 use Rattle.interpolation.proofs.Cut.{cut_number_below}
 use Rattle.interpolation.proofs.BothWords as words
 use Rattle.interpolation.proofs.Answers.{first-wrong, next_wrong, none_wrong}
-use Rattle.inverting.specs.Inner.{both_in, lower_end, upper_end, passes, wrong_at, ends_outcome, outcome_of}
+use Rattle.inverting.specs.Inner.{both_in, lower_end, upper_end, passes, wrong_at, ends_outcome}
 
 -- the upper of two words in a window
 pub word_above : (k window : ℕ) → k ≤ 12 → window < 2 ^ 64 → both_in k window / 2 ^ word_width k < 2 ^ word_width k
@@ -27,13 +26,6 @@ word_above k window few h = shr_lt (word_width k) (word_width k) (shr_lt (word_w
   where
     whole : 64 ≡ word_width k + word_width k + (64 - 2 * word_width k)
     whole = omega arith
-
--- what one number stands for
-pub code_served : (code : ℕ) → code < 2 ^ 32 → outcome_of code ≡ served code
-code_served code h = rw (lt-ltb code (2 ^ 32) h)
-
-pub code_wrong : (code j : ℕ) → code ≡ 2 ^ 32 + j → outcome_of code ≡ wrong_at j
-code_wrong code j h = rw (le-ltb code (2 ^ 32) (omega arith)) (ap wrong_at {x = code - 2 ^ 32} (omega arith))
 
 module _ (k : ℕ) (s : List ℕ) (t : ℕ) (kept : ImageKept k s) (least : 2 ^ (2 * k + 3) ≤ t) (most : t < 2 ^ (2 * k + 4)) (bytes : Bytes s) where
   pub cut_below : node_number k t < 2 ^ k

@@ -1,7 +1,7 @@
 -- What only inner promises cite: what is asked of the fraction bits of a cut operand and of the nodes at the ends of its piece, and what the words of
 -- both, side by side in one number, give for it.
 -- Assumes nothing.
-use Rattle.std.specs.Prelude.{ℕ, ◌+◌, ◌-◌, ◌*◌, ◌/◌, ◌%◌, ◌^◌, ◌≤◌, ◌<◌, Bool, cond, not, List, ltb, length}
+use Rattle.std.specs.Prelude.{ℕ, ◌+◌, ◌-◌, ◌*◌, ◌/◌, ◌%◌, ◌^◌, ◌≤◌, ◌<◌, Bool, cond, not, List, length}
 use Rattle.precision.specs.Precision.{word_width, image_length}
 use Rattle.quotient.specs.Inner.{rounds_up}
 use Rattle.nodes.specs.Nodes.{numerator, leading_one, decode_under}
@@ -54,7 +54,3 @@ ends_outcome k both j f =
     cond (not (passes k j (lower_end k both j))) (wrong_at j)
     (cond (not (passes k (j + 1) (upper_end k both j))) (wrong_at (j + 1))
     (served (chopped k (product_sum k (lower_end k both j) (upper_end k both j) f))))
-
--- the answer that one number stands for, so that a register carries it: R, and from 2^32 on the node of a wrong word
-abbrev pub outcome_of : ℕ → Outcome
-outcome_of code = cond (ltb code (2 ^ 32)) (served code) (wrong_at (code - 2 ^ 32))

@@ -20,7 +20,7 @@ use Rattle.tail.specs.Tail.{has_one_from, zeros}
 use Rattle.tail.specs.Inner.{cleared_from}
 use Rattle.tail.proofs.Laws.{none_bits, byte_before, byte_zero, none_zero, one_set}
 use Rattle.tail.proofs.Bits.{one_bit}
-use Rattle.tail.proofs.Writing.{length-zeros, bytes-zeros}
+use Rattle.tail.proofs.Zeros.{length-zeros, bytes-zeros}
 use Rattle.layout.specs.Layout.{Layout, end_of, length_of, image_of, rom_of, word_in, first_past}
 use Rattle.layout.proofs.Laws.{Fits, Whole, image-length, image_word}
 

@@ -1,4 +1,3 @@
 pub mod Laws
 pub mod Powers
 pub mod Nodes
-pub mod Numbers

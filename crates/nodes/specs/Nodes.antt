@@ -1,7 +1,8 @@
 -- The nodes, their words and how a word is decoded (document 01, "Construction of the nodes" and "The image";
 -- document 002, Algorithm 1).
 -- Assumes nothing.
-use Rattle.std.specs.Prelude.{ℕ, ◌+◌, ◌*◌, ◌%◌, ◌^◌, cond, ◌&&◌, leb, eqb}
+use Rattle.std.specs.Prelude.{ℕ, ◌+◌, ◌*◌, ◌%◌, ◌^◌, cond, ◌&&◌, Option, Some, None, leb, eqb}
+use Rattle.units.specs.declared.TableUnits.{TableUnits}
 use Rattle.precision.specs.Precision.{word_width, last_node, in_range}
 use Rattle.quotient.specs.Quotient.{rounded_up}
 
@@ -30,6 +31,10 @@ decode_under lead j word = cond (eqb j 0 && eqb word 0) (2 * lead) (lead + word)
 abbrev pub decode : ℕ → ℕ → ℕ → ℕ
 decode k j word = cond (eqb j (last_node k)) (leading_one k) (decode_under (leading_one k) j word)
 
--- c(j) where k is a precision and j is from 0 to 2^k; elsewhere 0, which no node is
+-- c(j), where k is a precision and j is from 0 to 2^k
+abbrev pub node_in_table : ℕ → ℕ → Option TableUnits
+node_in_table k j = cond (in_range k && leb j (last_node k)) (Some (record { 0 = node k j })) None
+
+-- the same as a number, and elsewhere 0, which no node is
 abbrev pub node_or_0 : ℕ → ℕ → ℕ
 node_or_0 k j = cond (in_range k && leb j (last_node k)) (node k j) 0

@@ -4,8 +4,8 @@
 mod eight;
 
 ghost use Rattle.std.specs.Prelude.{◌≡◌};
-ghost use Rattle.nodes.specs.Nodes.{node_or_0, decode_under};
-ghost use Rattle.nodes.specs.Inner.{quotients_or_0};
+ghost use Rattle.nodes.specs.Nodes.{node_in_table, decode_under};
+ghost use Rattle.nodes.specs.Inner.{quotients_there};
 
 pub use eight::{NODES_8, node_8};
 use precision::Precision;
@@ -13,7 +13,7 @@ use units::TableUnits;
 
 // A table of words in the numbers by which code makes and judges them: `count` words of `width` bits, word j being numerator / (first + j)
 // rounded up, modulo 2^width. Decoding puts the leading one `lead` back.
-#[derive(Clone, Copy)]
+#[derive(Clone, Copy, PartialEq, Eq, Debug)]
 pub struct Quotients {
     pub count: u32,
     pub width: u32,
@@ -22,54 +22,59 @@ pub struct Quotients {
     pub lead: u32,
 }
 
-// The numbers of the table of precision k, all 0 where k is no precision.
-pub fn table(k: Precision) -> Quotients
-    ensures { result ≡ quotients_or_0 k.0 }
-{
-    let count = k.word_count();
-    if count == 0 {
-        return Quotients {
-            count: 0,
-            width: 0,
-            numerator: 0,
-            first: 0,
-            lead: 0,
-        };
+impl Quotients {
+    ghost use Rattle.nodes.specs.Inner.{judged_word};
+
+    // What the word at node j stands for, where a product tells that it is the node, and None where it is wrong. Of the divisor and of the value the
+    // lowest 32 bits count, so that nothing is asked of j and of the word.
+    pub fn judged(self, j: u32, word: u32) -> Option<TableUnits>
+        ensures { result ≡ judged_word self j word }
+    {
+        let c = decoded(self.lead, j, word);
+        if !quotient::rounds_up(
+            self.numerator,
+            self.first.wrapping_add(j),
+            (c.0 % 4294967296) as u32,
+        ) {
+            return None;
+        }
+        Some(c)
     }
+}
+
+// The numbers of the table of precision k, None where k is no precision.
+pub fn table(k: Precision) -> Option<Quotients>
+    ensures { result ≡ quotients_there k.0 }
+{
+    let count = k.word_count()?;
     let width = 2 * k.0 + 2;
-    Quotients {
+    Some(Quotients {
         count,
         width,
         numerator: bits::power(3 * k.0 + 3),
         first: count,
         lead: 1 << width,
-    }
+    })
 }
 
-// c(j) at precision k, 0 where there is no such node.
-pub fn value(k: Precision, j: u32) -> TableUnits
-    ensures { result.0 ≡ node_or_0 k.0 j }
+// c(j) at precision k, None where there is no such node.
+pub fn value(k: Precision, j: u32) -> Option<TableUnits>
+    ensures { result ≡ node_in_table k.0 j }
 {
-    let t = table(k);
-    if t.count == 0 {
-        return TableUnits(0);
-    }
+    let t = table(k)?;
     if t.count < j {
-        return TableUnits(0);
+        return None;
     }
-    TableUnits(quotient::rounded_up(t.numerator, t.first + j))
+    Some(TableUnits(quotient::rounded_up(t.numerator, t.first + j)))
 }
 
 // What a word at node j stands for under a leading one; a zero word at node 0 means twice that. Whether the value is the
-// node's, `quotient::rounds_up` tells.
+// node's, `judged` tells. One test asks for both numbers: a check is a seventh faster so than by two.
 pub fn decoded(lead: u32, j: u32, word: u32) -> TableUnits
     ensures { result.0 ≡ decode_under lead j word }
 {
-    if j != 0 {
-        return TableUnits(lead as u64 + word as u64);
+    if j == 0 && word == 0 {
+        return TableUnits(2 * (lead as u64));
     }
-    if word != 0 {
-        return TableUnits(lead as u64 + word as u64);
-    }
-    TableUnits(2 * (lead as u64))
+    TableUnits(lead as u64 + word as u64)
 }

@@ -1,6 +1,6 @@
 -- The refusals of an operand (document 01, "Turned back, in checking order"; document 02, Q-1).
 -- Assumes nothing.
-use Rattle.std.specs.Prelude.{ℕ, not}
+use Rattle.std.specs.Prelude.{ℕ, not, List, [], ◌∷◌}
 use Rattle.answers.specs.Refusal.{Refusal}
 use Rattle.operand.specs.Operand.{is_fraction_count, is_normalised}
 
@@ -11,3 +11,7 @@ fraction_refusal n = record { applies = not (is_fraction_count n); number = 4; p
 -- 5: X is not from 2^n to 2^(n+1) - 1
 abbrev pub operand_refusal : ℕ → ℕ → Refusal
 operand_refusal n X = record { applies = not (is_normalised n X); number = 5; place = 0 }
+
+-- 4 and 5, in checking order
+abbrev pub operand_refusals : ℕ → ℕ → List Refusal
+operand_refusals n X = fraction_refusal n ∷ operand_refusal n X ∷ []

@@ -1,9 +1,8 @@
 -- Laws of `to_bytes` and `bytes_value`: a number as bytes and back.
 -- Assumes nothing.
-use Rattle.std.proofs.Common.{◌≡◌, ℕ, zero, suc, ◌+◌, ◌-◌, ◌*◌, ◌/◌, ◌%◌, ◌^◌, ◌<◌, ◌≤◌, List, [], ◌∷◌, ◌++◌, length, get_or, take, sym, refl, ap, ◌∙◌, subst, ap₂, append_assoc, append-nil, le_trans, add-zero, add-suc, mod-eq_of_lt, mul_assoc, mul_comm, zero-add, mul-suc, div-one, add-one, arith, length-append, take-suc, take_at, pow-add, shr-shr}
+use Rattle.std.proofs.Common.{◌≡◌, ℕ, zero, suc, ◌+◌, ◌-◌, ◌*◌, ◌/◌, ◌%◌, ◌^◌, ◌<◌, ◌≤◌, List, [], ◌∷◌, ◌++◌, length, get_or, take, sym, refl, ap, ◌∙◌, ap₂, append_assoc, append-nil, le_trans, add-zero, add-suc, mod-eq_of_lt, mul_assoc, mul_comm, zero-add, mul-suc, div-one, add-one, arith, length-append, take-suc, take_at, pow-add, shr-shr, pow_mono}
 use native.Mathlib.Nat.{le-suc, mul-add-mod_self_right, mod-one}
 use lib.Seq.{get_or_at}
-use lib.Arith.{digits_lt}
 use lib.Pow.{high, low, mod-pow-add}
 use Rattle.packing.specs.Packing.{to_bytes, bytes_value, Bytes}
 use Rattle.packing.proofs.Numbers.{packed_lt, packed_add, packed_ext}
@@ -39,6 +38,10 @@ bytes-to_bytes (suc n) v i = bytes_append (to_bytes n (v / 256)) (v % 256 ∷ []
 -- L bytes make a number of 8 × L bits
 pub value_lt : (s : List ℕ) (a n : ℕ) → ((i : ℕ) → i < n → get_or s (a + i) 0 < 256) → bytes_value s a n < 2 ^ (8 * n)
 value_lt s a n h = rw (mul_comm 8 n) (packed_lt 8 (λ (i : ℕ). get_or s (a + i) 0) n h)
+
+-- so that behind fewer than eight a byte more has its place in 64 bits
+pub value_lt_56 : (s : List ℕ) (a n : ℕ) → Bytes s → n < 8 → bytes_value s a n < 2 ^ 56
+value_lt_56 s a n h few = let most : 8 * n ≤ 56 = omega arith in omega (arith, value_lt s a n (λ i l. h (a + i)), pow_mono most)
 
 -- the bytes of a number make its lowest 8 × n bits, whatever follows them
 pub value-to_bytes : (n v : ℕ) (t : List ℕ) → bytes_value (to_bytes n v ++ t) 0 n ≡ v % 2 ^ (8 * n)
@@ -96,25 +99,6 @@ value_add s a m n =
     ∙ ap (λ (x : ℕ). bytes_value s a m * 2 ^ (n * 8) + x)
     (packed_ext 8 (λ (i : ℕ). get_or s (a + (m + i)) 0) (λ (i : ℕ). get_or s (a + m + i) 0) n (λ i l. ap (λ (x : ℕ). get_or s x 0) (omega arith)))
 
--- the next byte goes to the end of the number
-pub value_step : (s : List ℕ) (a e : ℕ) → a ≤ e → bytes_value s a (e + 1 - a) ≡ bytes_value s a (e - a) * 256 + get_or s e 0
-value_step s a e h =
-    ap (bytes_value s a) more ∙ ap (λ (x : ℕ). bytes_value s a (e - a) * 256 + get_or s x 0) there
-  where
-    more : e + 1 - a ≡ suc (e - a)
-    more = omega arith
-
-    there : a + (e - a) ≡ e
-    there = omega arith
-
--- and gives it 8 bits more
-pub value_step_lt : (v b a e : ℕ) → a ≤ e → v < 2 ^ (8 * (e - a)) → b < 256 → v * 256 + b < 2 ^ (8 * (e + 1 - a))
-value_step_lt v b a e h hv hb =
-    subst (λ (x : ℕ). v * 256 + b < x) (sym (pow-add 2 (8 * (e - a)) 8) ∙ ap (λ (x : ℕ). 2 ^ x) more) (digits_lt hv hb)
-  where
-    more : 8 * (e - a) + 8 ≡ 8 * (e + 1 - a)
-    more = omega arith
-
 -- the lowest bits of the number are those of the last byte
 pub value_low : (s : List ℕ) (n f : ℕ) → f ≤ 8 → bytes_value s 0 (suc n) % 2 ^ f ≡ get_or s n 0 % 2 ^ f
 value_low s n f h =
@@ -125,16 +109,3 @@ value_low s n f h =
   where
     all : 8 ≡ 8 - f + f
     all = omega (arith, h)
-
--- eight bytes at once
-spread : (a b c d e f g h : ℕ)
-    → a * 72057594037927936 + b * 281474976710656 + (c * 1099511627776 + d * 4294967296) + (e * 16777216 + f * 65536 + (g * 256 + h))
-    ≡ (((((((0 + a) * 256 + b) * 256 + c) * 256 + d) * 256 + e) * 256 + f) * 256 + g) * 256 + h
-spread a b c d e f g h = omega arith
-
-pub value_eight : (s : List ℕ) (at a b c d e f g h : ℕ)
-    → a ≡ get_or s at 0 → b ≡ get_or s (at + 1) 0 → c ≡ get_or s (at + 2) 0 → d ≡ get_or s (at + 3) 0
-    → e ≡ get_or s (at + 4) 0 → f ≡ get_or s (at + 5) 0 → g ≡ get_or s (at + 6) 0 → h ≡ get_or s (at + 7) 0
-    → a * 72057594037927936 + b * 281474976710656 + (c * 1099511627776 + d * 4294967296) + (e * 16777216 + f * 65536 + (g * 256 + h)) ≡ bytes_value s at 8
-value_eight s at a b c d e f g h pa pb pc pd pe pf pg ph =
-    spread a b c d e f g h ∙ rw (pa, pb, pc, pd, pe, pf, pg, ph, add-zero)

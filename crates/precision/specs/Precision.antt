@@ -38,7 +38,3 @@ longest_image = image_length greatest
 -- the bytes of an image, and 0 where k is no precision
 abbrev pub length_or_0 : ℕ → ℕ
 length_or_0 k = cond (in_range k) (image_length k) 0
-
--- the words of an image, and 0 where k is no precision
-abbrev pub words_or_0 : ℕ → ℕ
-words_or_0 k = cond (in_range k) (word_count k) 0

@@ -1,14 +1,14 @@
 // The notion of a precision: its limits, the width of a word and the length of an image.
 #![tactic(auto)]
 
-ghost use Rattle.std.specs.Prelude.{◌≡◌};
-ghost use Rattle.precision.specs.Precision.{least, greatest, longest_image, in_range, word_width, length_or_0, words_or_0};
+ghost use Rattle.std.specs.Prelude.{◌≡◌, if◌then◌else◌};
+ghost use Rattle.precision.specs.Precision.{least, greatest, longest_image, in_range, word_width, word_count, image_length};
 
 // A precision as it is asked for. Any number can be asked for; 1 to 12 are served.
-#[derive(Clone, Copy)]
+#[derive(Clone, Copy, PartialEq, Eq, Debug)]
 pub struct Precision(pub u32);
 
-// The image lengths of precisions 1 to 12, at k - 1.
+// The image lengths of precisions 1 to 12, at k - 1: the product holds them as a constant list.
 const IMAGE_LENGTHS: [usize; 12] = [1, 3, 8, 20, 48, 112, 256, 576, 1280, 2816, 6144, 13312];
 
 impl Precision {
@@ -25,11 +25,7 @@ impl Precision {
         ensures least { Precision.LEAST ≡ least }
         ensures greatest { Precision.GREATEST ≡ greatest }
     {
-        let k = self.0;
-        if k < Precision::LEAST {
-            return false;
-        }
-        k <= Precision::GREATEST
+        (Precision::LEAST..=Precision::GREATEST).contains(&self.0)
     }
 
     // The bits of one word, 2k + 2, of any number k.
@@ -39,29 +35,24 @@ impl Precision {
         2 * (self.0 as u64) + 2
     }
 
-    // The words of the image, 2^k, and 0 where this is no precision.
-    pub fn word_count(self) -> u32
-        ensures { result ≡ words_or_0 self.0 }
+    // The words of the image, 2^k, and None where this is no precision.
+    pub fn word_count(self) -> Option<u32>
+        ensures { result ≡ (if in_range self.0 then Some (word_count self.0) else None) }
     {
-        let k = self.0;
         if !self.in_range() {
-            return 0;
+            return None;
         }
-        1 << k
+        Some(1 << self.0)
     }
 
-    // The bytes of the image, 0 where this is no precision.
-    pub fn image_length(self) -> usize
-        ensures value { result ≡ length_or_0 self.0 }
+    // The bytes of the image, None where this is no precision.
+    pub fn image_length(self) -> Option<usize>
+        ensures value { result ≡ (if in_range self.0 then Some (image_length self.0) else None) }
         ensures longest { Precision.LONGEST_IMAGE ≡ longest_image }
     {
-        let k = self.0;
-        if k < Precision::LEAST {
-            return 0;
+        if !self.in_range() {
+            return None;
         }
-        if Precision::GREATEST < k {
-            return 0;
-        }
-        IMAGE_LENGTHS[(k - 1) as usize]
+        Some(IMAGE_LENGTHS[(self.0 - 1) as usize])
     }
 }

@@ -5,17 +5,14 @@ ghost use Rattle.std.specs.Prelude.{◌≡◌};
 ghost use Rattle.quotient.specs.Quotient.{rounded_up};
 ghost use Rattle.quotient.specs.Inner.{numerator_bits, rounds_up};
 
-// numerator / divisor rounded up, 0 where the divisor is 0.
+// numerator / divisor rounded up, 0 where the divisor is 0, which no table has: an Option would only be taken apart at each call.
 pub fn rounded_up(numerator: u64, divisor: u32) -> u64
     ensures { result ≡ rounded_up numerator divisor }
 {
     if divisor == 0 {
         return 0;
     }
-    let i = divisor as u64;
-    let down = numerator / i;
-    let rest = numerator - down * i;
-    if rest == 0 { down } else { down + 1 }
+    numerator.div_ceil(divisor as u64)
 }
 
 // Whether value is the quotient rounded up, by a product and one comparison: where the product does not reach the numerator, the difference wraps to
@@ -25,7 +22,7 @@ pub fn rounds_up(numerator: u64, divisor: u32, value: u32) -> bool
     ensures { result ≡ rounds_up (numerator_bits numerator) divisor value }
 {
     let product = (value as u64) * (divisor as u64);
-    std::num::wrapping_sub_u64(product, numerator % 9223372036854775808) < divisor as u64
+    product.wrapping_sub(numerator % 9223372036854775808) < divisor as u64
 }
 
 // The quotient rounded up by way of a guess: where the product shows that the guess is right, it is given, and else a division is made. Whatever is

@@ -2,86 +2,48 @@
 #![tactic(auto)]
 
 ghost use Rattle.std.specs.Prelude.{◌≡◌, ◌+◌};
-ghost use Rattle.answers.specs.Answer.{node_read, part};
+ghost use Rattle.answers.specs.Answer.{outcome_of_node, part};
 ghost use Rattle.image.specs.Calls.{node_outcome, shown_part, shown_from, shown_count};
 
-use answers::{NodeRead, Part};
+use answers::{Part, Refused};
 use precision::Precision;
 use units::TableUnits;
 
 // The value of node j; its own word alone is read, and none at node 2^k, which is the leading one.
-pub fn node(k: Precision, image: &[u8], j: u32) -> NodeRead
-    ensures { result ≡ node_read (node_outcome k.0 image.now j) }
+pub fn node(k: Precision, image: &[u8], j: u32) -> Result<TableUnits, Refused>
+    ensures { outcome_of_node result ≡ node_outcome k.0 image.now j }
 {
-    let number = image::refusal_number(k, image.len());
-    if number != 0 {
-        return NodeRead {
-            number,
-            place: 0,
-            value: TableUnits(0),
-        };
+    let table = image::table(k, image.len())?;
+    if table.count < j {
+        return Err(Refused::Node);
     }
-    let table = nodes::table(k);
-    let count = table.count;
-    if count < j {
-        return NodeRead {
-            number: 3,
-            place: 0,
-            value: TableUnits(0),
-        };
-    }
-    if j == count {
-        return NodeRead {
-            number: 0,
-            place: 0,
-            value: TableUnits(table.lead as u64),
-        };
+    if j == table.count {
+        return Ok(TableUnits(table.lead as u64));
     }
     let word = packing::word(image::own_bytes(k, image), table.width, j);
-    let c = nodes::decoded(table.lead, j, word as u32);
-    if !quotient::rounds_up(table.numerator, table.first + j, c.0 as u32) {
-        return NodeRead {
-            number: 6,
-            place: j as u64,
-            value: TableUnits(0),
-        };
-    }
-    NodeRead {
-        number: 0,
-        place: 0,
-        value: c,
-    }
+    table.judged(j, word as u32).ok_or(Refused::Word(j))
 }
 
-// An empty part, at the front of the image.
-fn no_bytes() -> Part
-    ensures { result ≡ part 0 0 }
-{
-    Part {
-        offset: 0,
-        count: 0,
-    }
-}
-
-// Where in the image the bytes stand that hold the word of node j; none, at the front, where there is no such word. The word is not judged.
+// Where in the image the bytes stand that hold the word of node j; none, at the front, where there is no such word. The word is not judged. The last byte
+// is counted as `packing::byte_count` does, without `div_ceil`.
 pub fn word_part(k: Precision, image: &[u8], j: u32) -> Part
     ensures { result ≡ part (shown_from k.0 image.now j) (shown_count k.0 image.now j) }
 {
-    let number = image::refusal_number(k, image.len());
-    if number != 0 {
-        return no_bytes();
-    }
-    let table = nodes::table(k);
-    if table.count <= j {
-        return no_bytes();
-    }
-    let width = table.width as u64;
-    let bit = (j as u64) * width;
-    let first = (bit / 8) as usize;
-    let past = ((bit + width + 7) / 8) as usize;
-    Part {
-        offset: first,
-        count: past - first,
+    match image::table(k, image.len()) {
+        Ok(table) if j < table.count => {
+            let width = table.width as u64;
+            let bit = (j as u64) * width;
+            let first = (bit / 8) as usize;
+            let past = ((bit + width + 7) / 8) as usize;
+            Part {
+                offset: first,
+                count: past - first,
+            }
+        }
+        _ => Part {
+            offset: 0,
+            count: 0,
+        },
     }
 }
 

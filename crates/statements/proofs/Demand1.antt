@@ -25,9 +25,9 @@
 --    or whether a word is shown (part_at_front, part_length, part_from, part_bytes).
 -- 9. Whether or not the caller has looked first: no open function has a `requires`, those for C among them (tested: `contracts_stand` in
 --    tests/repository.py). What a call promises is, on all inputs, an equation with the definitions of which this page speaks: build_outcome and
---    build_leaves (`building::build`), check_outcome (`checking::check`), node_outcome (`reading::node`, `binding::node`), reciprocal_outcome
---    (`inverting::reciprocal`, `binding::reciprocal`), shown_part and shown_from (`reading::word_bytes`), shown_from and shown_count
---    (`reading::word_part`), bound (`binding::bind`).
+--    build_leaves (`building::build`), check_outcome (`checking::check`), node_outcome (`reading::node`, `BoundTable::node`), reciprocal_outcome
+--    (`inverting::reciprocal`, `BoundTable::reciprocal`), shown_part and shown_from (`reading::word_bytes`), shown_from and shown_count
+--    (`reading::word_part`), bound (`BoundTable::new`).
 use mathlib.Core.Path.{◌≡◌, refl, ◌∙◌}
 use mathlib.Core.Logic.{◌↔◌, ◌⊎◌}
 use mathlib.Core.List.{List, [], ◌∷◌}

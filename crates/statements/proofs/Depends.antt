@@ -10,13 +10,13 @@ use native.Mathlib.Omega.{arith}
 use lib.ListN.{length, take, get_or}
 use lib.Seq.{ext_get_or, get_or-take}
 use lib.Dec.{ltb, eqb}
-use borrow.Author.Tests.{lt-ltb, le-ltb, eq-eqb, eqb-true, eqb-false}
+use borrow.Author.Tests.{lt-ltb, le-ltb, eq-eqb}
 use Rattle.bools.proofs.Bools.{below_or_not}
 use Rattle.precision.specs.Precision.{in_range, image_length, word_count, word_width}
 use Rattle.nodes.specs.Nodes.{stored_word, decode}
 use Rattle.packing.specs.Packing.{first_byte, last_byte}
 use Rattle.packing.proofs.Words.{word_local, span_within}
-use Rattle.answers.specs.Refusal.{Refusal, Outcome, outcome, turned_back}
+use Rattle.answers.specs.Refusal.{Refusal, Outcome, outcome, turned_back, some_applies}
 use Rattle.answers.proofs.Order.{applied}
 use Rattle.layout.specs.Layout.{first_wrong}
 use Rattle.layout.specs.Refusals.{image_refusal, word_refusal, tail_refusal}
@@ -25,12 +25,11 @@ use Rattle.image.specs.Image.{plain, word_of, node_of}
 use Rattle.image.specs.Refusals.{precision_refusal, node_refusal, limits}
 use Rattle.image.specs.Calls.{check_outcome, node_outcome, shown_part, shown_from}
 use Rattle.image.proofs.Laws.{plain_fits}
-use Rattle.image.proofs.Limits.{limit_none, limit_clear}
+use Rattle.image.proofs.Limits.{limit_none}
 use Rattle.image.proofs.Judging.{node_past}
 use Rattle.operand.specs.Operand.{cut_operand}
-use Rattle.operand.specs.Refusals.{fraction_refusal, operand_refusal}
-use Rattle.operand.specs.Inner.{operand_number}
-use Rattle.operand.proofs.Limits.{operand_refuses, operand_passes, operand_kept}
+use Rattle.operand.specs.Refusals.{operand_refusals}
+use Rattle.operand.proofs.Limits.{operand_decides, operand_passes, operand_kept}
 use Rattle.interpolation.specs.Algorithm.{node_number}
 use Rattle.interpolation.specs.Reciprocal.{read_reciprocal}
 use Rattle.interpolation.specs.Calls.{cut_refusals, reciprocal_outcome}
@@ -79,26 +78,25 @@ module _ (k : ℕ) (s t : List ℕ) (l : IsLongEnough k s) (m : IsLongEnough k t
   pub reciprocal_same : (n X : ℕ) → (node_number k (cut_operand k n X) < 2 ^ k → word_of k s (node_number k (cut_operand k n X)) ≡ word_of k t (node_number k (cut_operand k n X)))
       → (node_number k (cut_operand k n X) + 1 < 2 ^ k → word_of k s (node_number k (cut_operand k n X) + 1) ≡ word_of k t (node_number k (cut_operand k n X) + 1))
       → reciprocal_outcome k s n X ≡ reciprocal_outcome k t n X
-  reciprocal_same n X e d = rest_same (limits s) (limits t) (value s) (value t) (by (eqb (operand_number n X) 0) refl)
+  reciprocal_same n X e d = rest_same (limits s) (limits t) (value s) (value t) (by (some_applies (operand_refusals n X)) refl)
     where
       words : List ℕ → List Refusal
       words u = cut_refusals k u (cut_operand k n X)
 
       limits : List ℕ → List Refusal
-      limits u = fraction_refusal n ∷ operand_refusal n X ∷ words u
+      limits u = operand_refusals n X ++ words u
 
       value : List ℕ → ℕ
       value u = read_reciprocal k u (cut_operand k n X)
 
-      by : (b : Bool) → eqb (operand_number n X) 0 ≡ b → outcome (limits s) (value s) ≡ outcome (limits t) (value t)
-      by true z =
-          let none = eqb-true (operand_number n X) 0 z in
+      by : (b : Bool) → some_applies (operand_refusals n X) ≡ b → outcome (limits s) (value s) ≡ outcome (limits t) (value t)
+      by false none =
           let o = operand_kept n X none in
           let h = has_word k n X (o.least, o.below) in
           operand_passes n X (words s) (value s) none
           ∙ cut_same (cut_operand k n X) h (e h) d
           ∙ sym (operand_passes n X (words t) (value t) none)
-      by false z = operand_refuses n X (words s) (value s) (eqb-false (operand_number n X) 0 z) ∙ sym (operand_refuses n X (words t) (value t) (eqb-false (operand_number n X) 0 z))
+      by true some = operand_decides n X (words s) (value s) some ∙ sym (operand_decides n X (words t) (value t) some)
 
   -- the check where a word is wrong
   pub check_same : (j : ℕ) → j < 2 ^ k → (IsRightAt k s j → ⊥) → ((i : ℕ) → i < 2 ^ k → word_of k s i ≡ word_of k t i) → check_outcome k s ≡ check_outcome k t
@@ -147,7 +145,7 @@ module _ (k : ℕ) (s t : List ℕ) (p : IsPrecision k) (l : IsLongEnough k s) (
 
   -- and they stand at the same place
   pub front_place : (j : ℕ) → shown_from k s j ≡ shown_from k t j
-  front_place j = rw (limit_clear k s (limit_none k s p.0 p.1 l), limit_clear k t (limit_none k t p.0 p.1 m))
+  front_place j = rw (limit_none k s p.0 p.1 l, limit_none k t p.0 p.1 m)
 
   pub front_part : (j : ℕ) → shown_part k s j ≡ shown_part k t j
   front_part j =

@@ -19,14 +19,14 @@ use Rattle.layout.specs.Layout.{part_of}
 use Rattle.image.specs.Image.{plain}
 use Rattle.image.specs.Refusals.{limits}
 use Rattle.image.specs.Calls.{shown_part, shown_from, shown_count}
-use Rattle.image.proofs.Limits.{ImageKept, limit_none, limit_kept, clear_kept}
+use Rattle.image.proofs.Limits.{ImageKept, clear_kept}
 use Rattle.image.proofs.Shown.{shown-part, shown-from, shown-count}
 use Rattle.statements.specs.Terms.{IsPrecision, IsLongEnough}
 
 -- the part of bytes that is shown
 module _ (k : ℕ) (s : List ℕ) (j : ℕ) where
   kept : IsPrecision k → IsLongEnough k s → ImageKept k s
-  kept p l = limit_kept k s (limit_none k s p.0 p.1 l)
+  kept p l = record { low = p.0; high = p.1; long = l }
 
   pub shown_first : IsPrecision k → IsLongEnough k s → j < 2 ^ k → shown_from k s j ≡ first_byte (word_width k) j
   shown_first p l h = shown-from k s j (kept p l) h

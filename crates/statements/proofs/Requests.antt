@@ -1,20 +1,19 @@
 -- What an input requests, and the text that it is answered with.
 -- Assumes nothing.
 use mathlib.Core.Path.{◌≡◌, refl, sym, ◌∙◌, ap}
-use mathlib.Core.Bool.{true, cond}
+use mathlib.Core.Bool.{true}
 use mathlib.Core.List.{List, [], ◌∷◌, ◌++◌}
 use Prim.Native.Nat.{ℕ, ◌+◌, ◌^◌, ◌≤◌, ◌<◌}
 use native.Mathlib.Nat.{pow-le-pow_right}
 use native.Mathlib.Omega.{arith}
 use lib.ListN.{length, take}
+use Rattle.std.specs.Prelude.{Option, Some, None}
 use Rattle.precision.specs.Precision.{in_range}
 use Rattle.decimal.specs.Decimal.{decimal, is_digits, decimal_value}
-use Rattle.decimal.specs.declared.Reading.{Reading}
-use Rattle.decimal.specs.declared.Reading.TheVariants.{Number, Other}
 use Rattle.decimal.proofs.Laws.{decimal_digits, length_decimal_below, value-decimal, is_all, value_below}
 use Rattle.lines.specs.Lines.{line_feed, line_reading, refused_text}
 use Rattle.lines.proofs.ReadLines.{digits_read, read_digits}
-use Rattle.table_text.specs.TableText.{precision_of, lines, header, table_of, table_text}
+use Rattle.table_text.specs.TableText.{precision_of, lines, header, table_of, text_of, table_text}
 use Rattle.table_text.proofs.Requests.{request_found, request_prefix}
 use Rattle.table_text.proofs.LineLaws.{text-refused, text_table}
 use Rattle.statements.specs.Terms.{IsPrecision}
@@ -42,20 +41,20 @@ request_of_number n h =
 pub request_is_digits : (s : List ℕ) → (precision_of s ≡ 0 → ⊥) → (d : List ℕ) × (is_digits d ≡ true) × (length d ≤ 9) × (s ≡ d ++ line_feed ∷ []) × (precision_of s ≡ decimal_value d)
 request_is_digits s f = go (line_reading s 9) refl
   where
-    go : (r : Reading) → line_reading s 9 ≡ r → (d : List ℕ) × (is_digits d ≡ true) × (length d ≤ 9) × (s ≡ d ++ line_feed ∷ []) × (precision_of s ≡ decimal_value d)
-    go (Number v) e =
+    go : (r : Option ℕ) → line_reading s 9 ≡ r → (d : List ℕ) × (is_digits d ≡ true) × (length d ≤ 9) × (s ≡ d ++ line_feed ∷ []) × (precision_of s ≡ decimal_value d)
+    go (Some v) e =
         let n = read_digits s 9 v e in
         (n.0, n.1, n.2, n.3, request_found s e ∙ sym n.4)
-    go Other e = absurd (f (request_found s e))
+    go None e = absurd (f (request_found s e))
 
 -- so any other input is refused
 pub text_of_other : (s : List ℕ) → ((d : List ℕ) → is_digits d ≡ true → length d ≤ 9 → s ≡ d ++ line_feed ∷ [] → ⊥) → table_text s ≡ refused_text 1
 text_of_other s f = go (line_reading s 9) refl
   where
-    go : (r : Reading) → line_reading s 9 ≡ r → table_text s ≡ refused_text 1
-    go (Number v) e = let n = read_digits s 9 v e in absurd (f n.0 n.1 n.2 n.3)
-    go Other e = text-refused s (ap in_range (request_found s e))
+    go : (r : Option ℕ) → line_reading s 9 ≡ r → table_text s ≡ refused_text 1
+    go (Some v) e = let n = read_digits s 9 v e in absurd (f n.0 n.1 n.2 n.3)
+    go None e = text-refused s (ap in_range (request_found s e))
 
 pub text_of_prefix : (n : ℕ) (s : List ℕ) → 11 ≤ n → table_text (take n s) ≡ table_text s
 unfolding table_text
-text_of_prefix n s h = ap (λ (k : ℕ). cond (in_range k) (table_of k) (refused_text 1)) (request_prefix n s h)
+text_of_prefix n s h = ap text_of (request_prefix n s h)

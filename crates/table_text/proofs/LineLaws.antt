@@ -2,15 +2,15 @@
 -- Assumes nothing.
 use mathlib.Core.Path.{◌≡◌, refl}
 use mathlib.Core.Bool.{true, false}
-use mathlib.Core.List.{List, [], ◌++◌}
-use Prim.Native.Nat.{ℕ, ◌+◌, ◌%◌, ◌^◌, ◌≤◌, ◌<◌}
+use mathlib.Core.List.{List, [], ◌++◌, append_assoc, append-nil}
+use Prim.Native.Nat.{ℕ, ◌+◌, ◌%◌, ◌^◌, ◌<◌}
 use native.Mathlib.Numerals.{add-one}
 use native.Mathlib.Omega.{arith}
-use borrow.Author.Tests.{le-leb, eq-eqb, ne_eqb}
+use borrow.Author.Tests.{eq-eqb, ne_eqb}
 use Rattle.precision.specs.Precision.{in_range, word_width}
-use Rattle.nodes.specs.Nodes.{node, node_or_0}
+use Rattle.nodes.specs.Nodes.{node}
 use Rattle.lines.specs.Lines.{line_feed, space, field, refused_text}
-use Rattle.table_text.specs.TableText.{line, lines, hyphen_text, precision_of, table_of, table_text}
+use Rattle.table_text.specs.TableText.{line, lines, header, text_of, hyphen_text, precision_of, table_of, table_text}
 
 -- no line yet, and one line more
 pub lines_none : (k : ℕ) → lines k 0 ≡ []
@@ -21,19 +21,30 @@ pub lines_more : (k n : ℕ) → lines k (n + 1) ≡ lines k n ++ line k n
 unfolding lines
 lines_more k n = rw add-one
 
-module _ (k j : ℕ) (served : in_range k ≡ true) where
-  value_in : j ≤ 2 ^ k → node_or_0 k j ≡ node k j
-  value_in h = rw (served, le-leb j (2 ^ k) h)
+-- the first line and the lines of the first n nodes, none yet and one more; with node 2^k they are the table
+pub table_none : (k : ℕ) → header k ++ lines k 0 ≡ header k
+table_none k = rw lines_none (append-nil (header k))
 
+pub table_more : (k n : ℕ) → header k ++ lines k n ++ line k n ≡ header k ++ lines k (n + 1)
+table_more k n = rw lines_more (append_assoc (header k) (lines k n) (line k n))
+
+pub text_in_range : (k : ℕ) → in_range k ≡ true → text_of k ≡ header k ++ lines k (2 ^ k + 1)
+unfolding table_of
+text_in_range k e = rw e
+
+pub text_out_of_range : (k : ℕ) → in_range k ≡ false → text_of k ≡ refused_text 1
+text_out_of_range k e = rw e
+
+module _ (k j : ℕ) where
   -- the line of a node that has a word: the lowest bits of its value
-  pub line_word : {c w : ℕ} → j < 2 ^ k → c ≡ node_or_0 k j → w ≡ c % 2 ^ word_width k → field j space ++ field c space ++ field w line_feed ≡ line k j
+  pub line_word : {c w : ℕ} → j < 2 ^ k → c ≡ node k j → w ≡ c % 2 ^ word_width k → field j space ++ field c space ++ field w line_feed ≡ line k j
   unfolding line
-  line_word {c} {w} h p q = rw (q, p, value_in (omega arith), ne_eqb j (2 ^ k) (omega arith))
+  line_word {c} {w} h p q = rw (q, p, ne_eqb j (2 ^ k) (omega arith))
 
   -- the line of the last node
-  pub line_last : {c : ℕ} → j ≡ 2 ^ k → c ≡ node_or_0 k j → field j space ++ field c space ++ hyphen_text ≡ line k j
+  pub line_last : {c : ℕ} → j ≡ 2 ^ k → c ≡ node k j → field j space ++ field c space ++ hyphen_text ≡ line k j
   unfolding line
-  line_last {c} h p = rw (p, value_in (omega arith), eq-eqb j (2 ^ k) h)
+  line_last {c} h p = rw (p, eq-eqb j (2 ^ k) h)
 
 -- the text of an input, by whether the precision that it requests is in range
 pub text-refused : (s : List ℕ) → in_range (precision_of s) ≡ false → table_text s ≡ refused_text 1

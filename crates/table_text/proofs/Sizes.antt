@@ -74,6 +74,10 @@ header_most k e =
     wide : (1 ≤ k) × (k ≤ 12) → word_width k ≤ 26
     wide r = omega (arith, r.1)
 
+-- before the line of any node there is room for 63 bytes more
+pub table_before : (k j : ℕ) → in_range k ≡ true → j ≤ 2 ^ k → length (header k ++ lines k j) + 63 ≤ longest_text
+table_before k j e h = rw length-append (omega (arith, header_most k e, count_most k e, lines_most k j e (omega arith)))
+
 -- every text fits the room that is asked for
 pub text_fits : (s : List ℕ) → length (table_text s) ≤ longest_text
 unfolding table_text table_of

@@ -1,14 +1,14 @@
 -- The printed table (document 01, "The printed table").
 -- Assumes nothing.
-use Rattle.std.specs.Prelude.{ℕ, zero, suc, ◌+◌, ◌*◌, ◌^◌, Bool, cond, List, [], ◌∷◌, ◌++◌, leb, eqb, length}
+use Rattle.std.specs.Prelude.{ℕ, zero, suc, ◌+◌, ◌*◌, ◌^◌, Bool, cond, List, [], ◌∷◌, ◌++◌, leb, eqb, length, unwrap_or}
 use Rattle.decimal.specs.Text.{written}
-use Rattle.lines.specs.Lines.{line_feed, space, line_reading, number_or_0, field, refused_text}
+use Rattle.lines.specs.Lines.{line_feed, space, line_reading, field, refused_text}
 use Rattle.precision.specs.Precision.{in_range, image_length}
 use Rattle.nodes.specs.Nodes.{node, stored_word}
 
 -- the precision that the input requests, in 1 to 9 digits, then one line feed and no more; other input counts as 0
 unfoldable pub precision_of : List ℕ → ℕ
-precision_of s = number_or_0 (line_reading s 9)
+precision_of s = unwrap_or (line_reading s 9) 0
 
 -- "-" and a line feed
 abbrev pub hyphen_text : List ℕ
@@ -43,9 +43,13 @@ header k = precision_text ++ field k space ++ (bytes_text ++ field (image_length
 unfoldable pub table_of : ℕ → List ℕ
 table_of k = header k ++ lines k (2 ^ k + 1)
 
+-- the table of k, and the refusal where k is no precision
+abbrev pub text_of : ℕ → List ℕ
+text_of k = cond (in_range k) (table_of k) (refused_text 1)
+
 -- what is printed for an input: the table of the precision that it requests, and the refusal where that is out of range
 unfoldable pub table_text : List ℕ → List ℕ
-table_text s = cond (in_range (precision_of s)) (table_of (precision_of s)) (refused_text 1)
+table_text s = text_of (precision_of s)
 
 -- the room that is asked for before a text is written: 32 bytes for each of 4098 lines
 abbrev pub longest_text : ℕ

@@ -7,11 +7,13 @@ use mathlib.Core.List.{List}
 use Prim.Native.Nat.{ℕ, ◌+◌, ◌-◌, ◌*◌, ◌%◌, ◌^◌, ◌≤◌, ◌<◌}
 use native.Mathlib.Nat.{mod-eq_of_lt, mod-one, zero-mod}
 use native.Mathlib.Omega.{arith}
-use lib.Dec.{eqb}
-use lib.ListN.{get_or}
-use borrow.Author.Tests.{eq-eqb, ne_eqb, eqb-true, not-false}
-use Rattle.bools.proofs.Bools.{clash, below_or_not}
-use Rattle.tail.specs.Tail.{bits_from, has_one_from}
+use lib.Dec.{eqb, ltb}
+use lib.ListN.{length, get_or}
+use borrow.Author.Tests.{eq-eqb, ne_eqb, eqb-true, ltb-true, ltb-false, lt-ltb, le-ltb, not-false}
+use Rattle.std.specs.Prelude.{Some, None}
+use Rattle.bools.proofs.Bools.{clash, below_or_not, given, not_given}
+use Rattle.bools.proofs.Lowest.{lowest_is, lowest_none}
+use Rattle.tail.specs.Tail.{bits_from, has_one_from, first_one_from, first_one_in}
 use Rattle.tail.specs.Inner.{IsZero}
 
 module _ (b : ℕ) (s : List ℕ) (i : ℕ) where
@@ -70,3 +72,22 @@ module _ (s : List ℕ) (a b : ℕ) where
     where
       here : (i : ℕ) → b ≤ i → i < b + 1 → i ≡ b
       here i f h = omega (arith, f, h)
+
+-- the lowest byte with a one at bit b or later, where one has such a one and where none has
+module _ (b : ℕ) (s : List ℕ) where
+  pub one_is : (at : ℕ) → at < length s → has_one_from b s at ≡ true → ((i : ℕ) → i < at → has_one_from b s i ≡ false) → Some at ≡ first_one_in b s
+  one_is at h t f = let first = lowest_is (has_one_from b s) (length s) at h t f in simp (first, lt-ltb at (length s) h)
+
+  pub one_nowhere : ((i : ℕ) → i < length s → has_one_from b s i ≡ false) → None ≡ first_one_in b s
+  one_nowhere f = let first = lowest_none (has_one_from b s) (length s) f in simp (first, le-ltb (length s) (length s) (omega arith))
+
+  -- one that is found is the lowest, and stands in the list
+  pub one_found : (at : ℕ) → Some at ≡ first_one_in b s → (at ≡ first_one_from b s) × (at < length s)
+  one_found at e =
+      let t = given (ltb (first_one_from b s) (length s)) (first_one_from b s) at e in
+      (t.1, omega (arith, t.1, ltb-true (first_one_from b s) (length s) t.0))
+
+  -- and where none is found there is none
+  pub none_found : None ≡ first_one_in b s → length s ≤ first_one_from b s
+  none_found e =
+      ltb-false (first_one_from b s) (length s) (not_given (ltb (first_one_from b s) (length s)) (first_one_from b s) e)

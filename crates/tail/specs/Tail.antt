@@ -1,6 +1,6 @@
 -- The tail of a byte list: its bits from some bit on (document 02, Q-2). The most significant bit of byte 0 is bit 0.
 -- Assumes nothing.
-use Rattle.std.specs.Prelude.{ℕ, ◌-◌, ◌*◌, ◌%◌, ◌^◌, Bool, not, List, eqb, get_or, length, replicate}
+use Rattle.std.specs.Prelude.{ℕ, ◌-◌, ◌*◌, ◌%◌, ◌^◌, Bool, not, List, Option, Some, None, if◌then◌else◌, eqb, ltb, get_or, length, replicate}
 use Rattle.bools.specs.Lowest.{lowest}
 
 -- what byte i holds of the bits from bit b on, differences stopping at 0: all eight of its bits, its lowest ones, or none
@@ -14,6 +14,10 @@ has_one_from b s i = not (eqb (bits_from b s i) 0)
 -- the lowest byte with a one at bit b or later, and the number of bytes where none has one
 abbrev pub first_one_from : ℕ → List ℕ → ℕ
 first_one_from b s = lowest (has_one_from b s) (length s)
+
+-- the lowest byte with a one at bit b or later, if one has such a one
+abbrev pub first_one_in : ℕ → List ℕ → Option ℕ
+first_one_in b s = if ltb (first_one_from b s) (length s) then Some (first_one_from b s) else None
 
 -- n zero bytes
 abbrev pub zeros : ℕ → List ℕ

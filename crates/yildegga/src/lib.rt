@@ -1,5 +1,5 @@
 // The library for C and Rust: its calls under one prefix, over plain numbers and lent bytes. Each promises of its answer and of the lent bytes what
-// the call beneath it does.
+// the call beneath it does. C has no Option: where there is no image and no node, 0 is handed out.
 #![tactic(auto)]
 
 ghost use Rattle.std.specs.Prelude.{◌≡◌};
@@ -10,6 +10,7 @@ ghost use Rattle.image.specs.Calls.{build_outcome, build_leaves, check_outcome, 
 ghost use Rattle.interpolation.specs.Calls.{reciprocal_outcome};
 
 use answers::{Done, NodeRead, Part, ReciprocalGiven};
+use operand::Operand;
 use precision::Precision;
 use units::TableUnits;
 
@@ -18,22 +19,16 @@ use units::TableUnits;
 pub extern "C" fn yildegga_image_length(k: u32) -> usize
     ensures { result ≡ length_or_0 k }
 {
-    Precision(k).image_length()
+    Precision(k).image_length().unwrap_or(0)
 }
 
-// Writes the image of precision k at the front of the buffer, and zeros behind it to the end. The answer is made field by field: handed on whole, it
-// is copied through memory in pieces that overlap, and the processor waits for them.
+// Writes the image of precision k at the front of the buffer, and zeros behind it to the end.
 #[unsafe(no_mangle)]
 pub extern "C" fn yildegga_build(k: u32, image: &mut [u8]) -> Done
     ensures value { result ≡ done (build_outcome k image.old) }
     ensures image_after { image.new ≡ build_leaves k image.old }
 {
-    let done = building::build(Precision(k), image);
-    Done {
-        number: done.number,
-        place: done.place,
-        value: done.value,
-    }
+    building::build(Precision(k), image).into()
 }
 
 // Whether every word of the image is the construction's and the bytes past it are zero. The place of refusal 6 is the lowest node of a wrong word, that
@@ -42,7 +37,7 @@ pub extern "C" fn yildegga_build(k: u32, image: &mut [u8]) -> Done
 pub extern "C" fn yildegga_check(k: u32, image: &[u8]) -> Done
     ensures { result ≡ done (check_outcome k image.now) }
 {
-    checking::check(Precision(k), image)
+    checking::check(Precision(k), image).into()
 }
 
 // The value of node j.
@@ -50,7 +45,7 @@ pub extern "C" fn yildegga_check(k: u32, image: &[u8]) -> Done
 pub extern "C" fn yildegga_node(k: u32, image: &[u8], j: u32) -> NodeRead
     ensures { result ≡ node_read (node_outcome k image.now j) }
 {
-    reading::node(Precision(k), image, j)
+    reading::node(Precision(k), image, j).into()
 }
 
 // Node j of precision 8 by the constant list, with no image lent, 0 where j is above 256.
@@ -58,7 +53,7 @@ pub extern "C" fn yildegga_node(k: u32, image: &[u8], j: u32) -> NodeRead
 pub extern "C" fn yildegga_node_8(j: u32) -> TableUnits
     ensures { result.0 ≡ node_or_0 8 j }
 {
-    nodes::node_8(j)
+    nodes::node_8(j).unwrap_or(TableUnits(0))
 }
 
 // Where in the image the bytes stand that hold the word of node j, by the place of the first and their number.
@@ -74,5 +69,5 @@ pub extern "C" fn yildegga_word_bytes(k: u32, image: &[u8], j: u32) -> Part
 pub extern "C" fn yildegga_reciprocal(k: u32, image: &[u8], n: u32, x: u64) -> ReciprocalGiven
     ensures { result ≡ reciprocal_given (reciprocal_outcome k image.now n x) }
 {
-    inverting::reciprocal(Precision(k), image, n, x)
+    inverting::reciprocal(Precision(k), image, Operand { n, x }).into()
 }

@@ -8,6 +8,7 @@ ghost use Rattle.image.specs.Calls.{node_outcome};
 ghost use Rattle.interpolation.specs.Calls.{reciprocal_outcome};
 
 use answers::{NodeRead, ReciprocalGiven};
+use operand::Operand;
 use precision::Precision;
 
 // The value of node j through a bound table.
@@ -15,7 +16,7 @@ use precision::Precision;
 pub extern "C" fn yildegga_bound_node(k: u32, image: &[u8], j: u32) -> NodeRead
     ensures { result ≡ node_read (node_outcome k image.now j) }
 {
-    binding::bound_node(Precision(k), image, j)
+    binding::bound_node(Precision(k), image, j).into()
 }
 
 // The reciprocal of the operand x through a bound table.
@@ -23,5 +24,5 @@ pub extern "C" fn yildegga_bound_node(k: u32, image: &[u8], j: u32) -> NodeRead
 pub extern "C" fn yildegga_bound_reciprocal(k: u32, image: &[u8], n: u32, x: u64) -> ReciprocalGiven
     ensures { result ≡ reciprocal_given (reciprocal_outcome k image.now n x) }
 {
-    binding::bound_reciprocal(Precision(k), image, n, x)
+    binding::bound_reciprocal(Precision(k), image, Operand { n, x }).into()
 }

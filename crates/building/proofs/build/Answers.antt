@@ -2,7 +2,7 @@
 -- and zeros behind them.
 -- Assumes nothing.
 use mathlib.Core.Path.{◌≡◌, sym, ◌∙◌, ap, ap₂}
-use mathlib.Core.Bool.{cond}
+use mathlib.Core.Bool.{false, cond}
 use mathlib.Core.List.{List, [], ◌++◌}
 use Prim.Native.Nat.{ℕ, ◌+◌, ◌*◌, ◌≤◌}
 use native.Mathlib.Nat.{mul-le-mul}
@@ -13,16 +13,16 @@ use lib.Dec.{eqb}
 use Rattle.packing.specs.Packing.{bytes_taken}
 use Rattle.packing.specs.Writing.{finish_leaves, writer_before, bytes_before}
 use Rattle.packing.proofs.Written.{words_finished}
-use Rattle.answers.specs.Refusal.{Outcome}
-use Rattle.answers.specs.Answer.{done}
+use Rattle.answers.specs.Refusal.{Outcome, some_applies}
 use Rattle.nodes.specs.Inner.{quotients_of}
 use Rattle.nodes.specs.declared.Quotients.{Quotients}
 use Rattle.tail.specs.Inner.{cleared_from}
 use Rattle.layout.specs.Layout.{image_of, length_of, rom_of}
 use Rattle.layout.proofs.Rom.{rom_written}
 use Rattle.image.specs.Image.{plain}
-use Rattle.image.specs.Inner.{refusal_number, quotients, layout_of}
-use Rattle.image.proofs.Limits.{ImageKept, limit_passes, limit_kept}
+use Rattle.image.specs.Refusals.{limits}
+use Rattle.image.specs.Inner.{quotients, layout_of}
+use Rattle.image.proofs.Limits.{ImageKept, limit_passes, limit_clear, clear_kept}
 use Rattle.building.specs.Inner.{CanFill}
 use Rattle.building.proofs.build.Goals as goal
 
@@ -44,8 +44,7 @@ pub fill-w-requires : goal.fill-w-requires
 fill-w-requires c =
     let k = c.args.k.0 in
     let s = c.args.image.now in
-    let ok : ImageKept k s = limit_kept k s (sym c.refusal_number-number.ensures ∙ c.if-number-ne0.false) in
-    rw (c.table.ensures ∙ ok.numbers) (can-fill k s ok)
+    rw (c.in_ok-table.ensures.numbers) (can-fill k s (clear_kept k s (limit_clear k s c.in_ok-table.ensures.refusals)))
 
 -- what the builder leaves of s by its answer
 abbrev leaves : ℕ → List ℕ → Outcome → List ℕ
@@ -64,18 +63,18 @@ pub returns : goal.returns
 returns c =
     let k = c.args.k.0 in
     let s = c.args.image.now in
-    let t = c.table.result in
-    let limit : refusal_number k (length s) ≡ 0 = sym c.refusal_number-number.ensures ∙ c.if-number-ne0.false in
-    let ok : ImageKept k s = limit_kept k s limit in
-    let table : t ≡ quotients_of k = c.table.ensures ∙ ok.numbers in
+    let t = c.in_ok-table.table in
+    let clear : some_applies (limits k (length s)) ≡ false = limit_clear k s c.in_ok-table.ensures.refusals in
+    let ok : ImageKept k s = clear_kept k s clear in
+    let table : t ≡ quotients_of k = c.in_ok-table.ensures.numbers in
     let past : c.finish-past.result ≡ length_of (layout_of t) = c.finish-past.ensures.value ∙ ap bytes_taken c.fill-w.ensures.place_after in
     let words = c.finish-past.ensures.image_after ∙ ap₂ finish_leaves c.fill-w.ensures.bytes c.fill-w.ensures.writer in
     record {
-      value = ap done (sym (limit_passes k s [] 0 limit));
+      value = c.in_ok-table.ensures.refusals;
       image_after =
           c.clear.ensures
           ∙ ap₂ cleared_from past (words ∙ finished t s (rw table (can-fill k s ok)))
           ∙ ap (λ (t : Quotients). cleared_from (length_of (layout_of t)) (image_of (layout_of t) ++ drop (length_of (layout_of t)) s)) table
           ∙ rom_written (plain k) s ok.long
-          ∙ sym (ap (leaves k s) (limit_passes k s [] 0 limit));
+          ∙ sym (ap (leaves k s) (limit_passes k s [] 0 clear));
     }

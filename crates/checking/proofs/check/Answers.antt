@@ -2,24 +2,33 @@
 -- them.
 -- Assumes nothing.
 use mathlib.Core.Path.{◌≡◌, sym, ◌∙◌, ap}
+use mathlib.Core.Bool.{false}
 use mathlib.Core.List.{List}
-use Prim.Native.Nat.{ℕ, zero, suc, ◌+◌, ◌*◌, ◌%◌, ◌^◌, ◌≤◌, ◌<◌}
+use Prim.Native.Nat.{ℕ, zero, suc, ◌*◌, ◌%◌, ◌^◌, ◌≤◌}
 use native.Mathlib.Nat.{not-suc-le-zero, pow-suc}
 use native.Mathlib.Omega.{arith}
 use lib.ListN.{length}
-use lib.Pow.{pow_mono}
-use Rattle.nodes.specs.Inner.{quotients_of, quotients_or_0}
+use lib.Dec.{ltb}
+use borrow.Author.Tests.{ltb-true, ltb-false}
+use Rattle.std.proofs.Common.{if◌then◌else◌, Some, None}
+use Rattle.bools.proofs.Bools.{given, not_given}
+use Rattle.nodes.specs.Inner.{quotients_of}
 use Rattle.nodes.specs.declared.Quotients.{Quotients}
-use Rattle.nodes.proofs.Nodes.{decode_most, numerator_whole, word_judged}
-use Rattle.answers.specs.Answer.{done}
-use Rattle.layout.specs.Layout.{first_wrong, first_past}
+use Rattle.nodes.proofs.Nodes.{judged_wrong}
+use Rattle.tail.specs.Tail.{first_one_in}
+use Rattle.tail.proofs.Laws.{one_found, none_found}
+use Rattle.answers.specs.Refusal.{served, some_applies}
+use Rattle.answers.specs.Answer.{refused}
+use Rattle.answers.specs.declared.Refused.TheVariants.{Word, Tail}
+use Rattle.layout.specs.Layout.{end_of, first_wrong}
 use Rattle.image.specs.Image.{plain}
+use Rattle.image.specs.Refusals.{limits}
 use Rattle.image.specs.Calls.{check_outcome}
-use Rattle.image.specs.Inner.{refusal_number, own_bytes, layout_of}
+use Rattle.image.specs.Inner.{own_bytes, layout_of}
 use Rattle.image.proofs.Checks.{check_wrong, check_past, check_none}
-use Rattle.image.proofs.Limits.{ImageKept, limit_kept}
+use Rattle.image.proofs.Limits.{limit_clear, clear_kept}
 use Rattle.image.proofs.OwnBytes.{own_wrong}
-use Rattle.checking.specs.Inner.{AreWords}
+use Rattle.checking.specs.Inner.{AreWords, wrong_word}
 use Rattle.checking.proofs.check.Goals as goal
 
 -- the words of a precision are even in number, and such as are checked
@@ -29,82 +38,75 @@ count_even (suc q) h = omega (arith, pow-suc 2 q)
 
 are_words : (k : ℕ) → 1 ≤ k → k ≤ 12 → AreWords (quotients_of k)
 are_words k low high =
-    let wide : 2 * k + 3 ≤ 27 = omega arith in
     record {
       one = omega arith;
       two = omega arith;
       even = count_even k low;
-      numerator = numerator_whole k high;
-      divisors = omega (arith, pow_mono high);
-      values = λ j word l. omega (arith, decode_most k j word l, pow_mono wide);
-      judges = λ j word h l. word_judged k j word h l;
+      judges = λ j word h l. judged_wrong k high j word h l;
     }
 
--- behind the test of the limits, n being the number of the refusal: both are kept, and t is the table of k
-module _ (k n : ℕ) (s : List ℕ) (t : Quotients) (number : n ≡ refusal_number k (length s)) (none : n ≡ 0) (is : t ≡ quotients_or_0 k) where
-  limit : refusal_number k (length s) ≡ 0
-  limit = sym number ∙ none
-
-  kept : ImageKept k s
-  kept = limit_kept k s limit
-
-  table : t ≡ quotients_of k
-  table = is ∙ kept.numbers
-
+-- behind the test of the limits, t being the table of k
+module _ (k : ℕ) (s : List ℕ) (t : Quotients) (clear : some_applies (limits k (length s)) ≡ false) (table : t ≡ quotients_of k) where
   are_checked : AreWords t
-  are_checked = rw table (are_words k kept.low kept.high)
+  are_checked = let kept = clear_kept k s clear in rw table (are_words k kept.low kept.high)
 
-  counted : t.count ≡ 2 ^ k
-  counted = ap (λ (q : Quotients). q.count) table
+  -- the lowest wrong word of the image's own bytes is that of the buffer
+  wrong_is : {bytes : List ℕ} → bytes ≡ own_bytes k s → wrong_word (layout_of t) bytes ≡ wrong_word (plain k) s
+  wrong_is own =
+      rw (own, table)
+      (ap (λ (i : ℕ). if ltb i (2 ^ k) then Some i else None) (own_wrong k s (clear_kept k s clear)))
 
-  -- the place that is found is the lowest wrong word of the image, and there are 2^k
-  module _ {bytes : List ℕ} {place : ℕ} (own : bytes ≡ own_bytes k s) (lowest : place ≡ first_wrong (layout_of t) bytes) where
-    found : place ≡ first_wrong (plain k) s
-    found =
-        lowest
-        ∙ ap (λ (l : List ℕ). first_wrong (layout_of t) l) own
-        ∙ ap (λ (q : Quotients). first_wrong (layout_of q) (own_bytes k s)) table
-        ∙ own_wrong k s kept
+  word_wrong : {j : ℕ} → Some j ≡ wrong_word (plain k) s → refused (Word j) ≡ check_outcome k s
+  word_wrong {j} e =
+      let f = given (ltb (first_wrong (plain k) s) (2 ^ k)) (first_wrong (plain k) s) j e in
+      ap (λ (i : ℕ). refused (Word i)) f.1 ∙ sym (check_wrong k s clear (ltb-true (first_wrong (plain k) s) (2 ^ k) f.0))
 
-    word_wrong : place < t.count → record { number = 6; place = place; value = 0 } ≡ done (check_outcome k s)
-    word_wrong h =
-        let less : first_wrong (plain k) s < 2 ^ k = omega (arith, found, counted) in
-        ap (λ (p : ℕ). done (record { number = 6; place = p; value = 0 })) found
-        ∙ ap done (sym (check_wrong k s limit less))
+  -- behind the test of the words all of them are right, and the byte that is found is the lowest with a one behind them
+  module _ (none : None ≡ wrong_word (plain k) s) where
+    right : 2 ^ k ≤ first_wrong (plain k) s
+    right = ltb-false (first_wrong (plain k) s) (2 ^ k) (not_given (ltb (first_wrong (plain k) s) (2 ^ k)) (first_wrong (plain k) s) none)
 
-    -- behind the test of the words all of them are right, and the byte that is found is the lowest with a one behind them
-    module _ (passed : t.count ≤ place) {past : ℕ} (behind : past ≡ first_past (layout_of t) s) where
-      right : 2 ^ k ≤ first_wrong (plain k) s
-      right = omega (arith, found, counted)
+    behind : first_one_in (t.count * t.width) s ≡ first_one_in (end_of (plain k)) s
+    behind = ap (λ (q : Quotients). first_one_in (q.count * q.width) s) table
 
-      past_is : past ≡ first_past (plain k) s
-      past_is = behind ∙ ap (λ (q : Quotients). first_past (layout_of q) s) table
+    tail_wrong : {past : ℕ} → Some past ≡ first_one_in (t.count * t.width) s → refused (Tail past) ≡ check_outcome k s
+    tail_wrong {past} e =
+        let f = one_found (end_of (plain k)) s past (e ∙ behind) in
+        ap (λ (i : ℕ). refused (Tail i)) f.0 ∙ sym (check_past k s clear right (omega (arith, f.0, f.1)))
 
-      tail_wrong : past < length s → record { number = 7; place = past; value = 0 } ≡ done (check_outcome k s)
-      tail_wrong h =
-          let less : first_past (plain k) s < length s = omega (arith, past_is) in
-          ap (λ (p : ℕ). done (record { number = 7; place = p; value = 0 })) past_is
-          ∙ ap done (sym (check_past k s limit right less))
+    none_wrong : None ≡ first_one_in (t.count * t.width) s → served 0 ≡ check_outcome k s
+    none_wrong e = sym (check_none k s clear right (none_found (end_of (plain k)) s (e ∙ behind)))
 
-      none_wrong : length s ≤ past → record { number = 0; place = 0; value = 0 } ≡ done (check_outcome k s)
-      none_wrong h =
-          let all : length s ≤ first_past (plain k) s = omega (arith, past_is) in
-          ap done (sym (check_none k s limit right all))
+pub first_wrong-requires : goal.first_wrong-requires
+first_wrong-requires c =
+    let s = c.args.image.now in
+    are_checked c.args.k.0 s c.in_ok-table.table (limit_clear c.args.k.0 s c.in_ok-table.ensures.refusals) c.in_ok-table.ensures.numbers
 
-pub first_wrong-place-requires : goal.first_wrong-place-requires
-first_wrong-place-requires c =
-    are_checked c.args.k.0 c.refusal_number-number.result c.args.image.now c.table-table.result c.refusal_number-number.ensures c.if-number-ne0.false c.table-table.ensures
+-- a word is wrong
+pub returns-in-Some : goal.returns-in-Some
+returns-in-Some c =
+    let k = c.args.k.0 in
+    let s = c.args.image.now in
+    let clear = limit_clear k s c.in_ok-table.ensures.refusals in
+    let table = c.in_ok-table.ensures.numbers in
+    word_wrong k s c.in_ok-table.table clear table (sym c.in-Some.is ∙ c.first_wrong.ensures ∙ wrong_is k s c.in_ok-table.table clear table c.own_bytes.ensures.bytes)
 
-pub returns-then-past-image : goal.returns-then-past-image
-returns-then-past-image c =
-    tail_wrong c.args.k.0 c.refusal_number-number.result c.args.image.now c.table-table.result c.refusal_number-number.ensures c.if-number-ne0.false c.table-table.ensures c.own_bytes.ensures.bytes c.first_wrong-place.ensures c.if-place-table.false c.first_one-past.ensures c.if-past-image.true
+-- a bit behind the words is one
+pub returns-in-Some-first_one : goal.returns-in-Some-first_one
+returns-in-Some-first_one c =
+    let k = c.args.k.0 in
+    let s = c.args.image.now in
+    let clear = limit_clear k s c.in_ok-table.ensures.refusals in
+    let table = c.in_ok-table.ensures.numbers in
+    let none = sym c.in_default.is ∙ c.first_wrong.ensures ∙ wrong_is k s c.in_ok-table.table clear table c.own_bytes.ensures.bytes in
+    tail_wrong k s c.in_ok-table.table clear table none (sym c.in-Some-first_one.is ∙ c.first_one.ensures)
 
 -- nothing is wrong
 pub returns : goal.returns
 returns c =
-    none_wrong c.args.k.0 c.refusal_number-number.result c.args.image.now c.table-table.result c.refusal_number-number.ensures c.if-number-ne0.false c.table-table.ensures c.own_bytes.ensures.bytes c.first_wrong-place.ensures c.if-place-table.false c.first_one-past.ensures c.if-past-image.false
-
--- the lowest wrong word is the place
-pub returns-then-place-table : goal.returns-then-place-table
-returns-then-place-table c =
-    word_wrong c.args.k.0 c.refusal_number-number.result c.args.image.now c.table-table.result c.refusal_number-number.ensures c.if-number-ne0.false c.table-table.ensures c.own_bytes.ensures.bytes c.first_wrong-place.ensures c.if-place-table.true
+    let k = c.args.k.0 in
+    let s = c.args.image.now in
+    let clear = limit_clear k s c.in_ok-table.ensures.refusals in
+    let table = c.in_ok-table.ensures.numbers in
+    let none = sym c.in_default.is ∙ c.first_wrong.ensures ∙ wrong_is k s c.in_ok-table.table clear table c.own_bytes.ensures.bytes in
+    none_wrong k s c.in_ok-table.table clear table none (sym c.in_default-first_one.is ∙ c.first_one.ensures)

@@ -1,100 +1,113 @@
--- `checking::first_wrong` meets its contract: two words are read at once, and the test by a product tells of each whether it is wrong.
+-- `checking::first_wrong` meets its contract: two words are read at once, and each is judged.
 -- Assumes nothing.
-use mathlib.Core.Path.{◌≡◌, sym, ap, ◌∙◌}
+use mathlib.Core.Path.{◌≡◌, refl, sym, ap, ◌∙◌}
 use mathlib.Core.Bool.{Bool, true, false, not}
 use mathlib.Core.List.{List}
-use Prim.Native.Nat.{ℕ, ◌+◌, ◌*◌, ◌/◌, ◌%◌, ◌^◌, ◌≤◌, ◌<◌}
+use Prim.Native.Nat.{ℕ, ◌+◌, ◌*◌, ◌/◌, ◌%◌, ◌^◌, ◌<◌}
 use native.Mathlib.Omega.{arith}
 use borrow.Author.Count.{below_more}
-use Rattle.quotient.specs.Inner.{numerator_bits, rounds_up}
-use Rattle.nodes.specs.Nodes.{decode_under}
+use borrow.Author.Tests.{lt-ltb, le-ltb}
+use Rattle.std.proofs.Common.{Option, Some, None}
+use Rattle.std.specs.Option.{is_some, is_none}
+use Rattle.nodes.specs.Inner.{judged_word}
 use Rattle.nodes.specs.declared.Quotients.{Quotients}
 use Rattle.packing.specs.Packing.{Bytes, word_at}
 use Rattle.packing.specs.Inner.{field_read}
-use Rattle.packing.proofs.Words.{word_lt}
 use Rattle.bools.proofs.Lowest.{lowest_is, lowest_none}
-use Rattle.layout.specs.Layout.{is_wrong, first_wrong}
+use Rattle.layout.specs.Layout.{is_wrong}
 use Rattle.image.specs.Inner.{layout_of}
-use Rattle.checking.specs.Inner.{AreWords}
-use Rattle.checking.proofs.Twos.{word_fits, first_of, second_of, test_tells}
+use Rattle.checking.specs.Inner.{AreWords, wrong_word}
+use Rattle.checking.proofs.Twos.{word_fits, first_of, second_of, judged_tells}
 use Rattle.checking.proofs.first_wrong.Goals as goal
 
--- a turn of the loop at word j, whose place is `bit`: what is read there, and the words above and below in it
-module _ (t : Quotients) (p : AreWords t) (s : List ℕ) (bytes : Bytes s) (j bit both : ℕ) (place : bit ≡ j * t.width) (field : both ≡ field_read s bit (2 * t.width)) where
-  reads : both ≡ field_read s (j * t.width) (2 * t.width)
+-- the words before word j are right
+abbrev RightBefore : Quotients → List ℕ → ℕ → Type 0
+RightBefore t s j = (i : ℕ) → i < j → is_wrong (layout_of t) s i ≡ false
+
+module _ (t : Quotients) (s : List ℕ) where
+  -- the first that is not is the lowest wrong one
+  found : (j : ℕ) → j < t.count → RightBefore t s j → is_wrong (layout_of t) s j ≡ true → Some j ≡ wrong_word (layout_of t) s
+  found j h right wrong =
+      let is = lowest_is (is_wrong (layout_of t) s) t.count j h wrong right in
+      rw is (rw (lt-ltb j t.count h) refl)
+
+  -- and where all are, none is
+  none_found : RightBefore t s t.count → None ≡ wrong_word (layout_of t) s
+  none_found right =
+      let is = lowest_none (is_wrong (layout_of t) s) t.count right in
+      rw is (rw (le-ltb t.count t.count (omega arith)) refl)
+
+-- a turn of the loop: what is read from word j on, and the words above and below in it
+module _ (t : Quotients) (p : AreWords t) (s : List ℕ) (bytes : Bytes s) (pair : ℕ) (more : pair < t.count / 2) (right : RightBefore t s (2 * pair)) {bit both : ℕ}
+    (place : bit ≡ 2 * pair * t.width) (field : both ≡ field_read s bit (2 * t.width)) where
+  reads : both ≡ field_read s (2 * pair * t.width) (2 * t.width)
   reads = field ∙ ap (λ (b : ℕ). field_read s b (2 * t.width)) place
 
-  first_word : {word : ℕ} → word ≡ both / 2 ^ t.width → word ≡ word_at t.width s j
-  first_word e = e ∙ ap (λ (x : ℕ). x / 2 ^ t.width) reads ∙ first_of p s bytes j
+  -- both words of the turn are there
+  below : 2 * pair + 1 < t.count
+  below = omega (arith, p.even)
 
-  second_word : {word : ℕ} → word ≡ both % 2 ^ t.width → word ≡ word_at t.width s (j + 1)
-  second_word e = e ∙ ap (λ (x : ℕ). x % 2 ^ t.width) reads ∙ second_of p s bytes j
+  module _ {word : ℕ} (high : word ≡ both / 2 ^ t.width) where
+    first_word : word ≡ word_at t.width s (2 * pair)
+    first_word = high ∙ ap (λ (x : ℕ). x / 2 ^ t.width) reads ∙ first_of p s bytes (2 * pair)
 
-  -- the first word has its place in 32 bits, and so has what it stands for
-  first-fits : {word : ℕ} → word ≡ both / 2 ^ t.width → word < 2 ^ 32
-  first-fits e = omega (arith, first_word e, word_fits p s j)
+    first-fits : word < 2 ^ 32
+    first-fits = omega (arith, first_word, word_fits p s (2 * pair))
 
-  value_fits : {word value : ℕ} → word ≡ both / 2 ^ t.width → value ≡ decode_under t.lead j word → value < 2 ^ 32
-  value_fits e d = rw (d, first_word e) (p.values j (word_at t.width s j) (word_lt t.width s j))
+    -- whether none is given for the first says whether it is wrong
+    first_tells : is_none (judged_word t (2 * pair) word) ≡ is_wrong (layout_of t) s (2 * pair)
+    first_tells = judged_tells p s (2 * pair) (omega (arith, below)) first_word
 
-  module _ (even : j % 2 ≡ 0) (more : j < t.count) (right : (i : ℕ) → i < j → is_wrong (layout_of t) s i ≡ false) where
-    -- both words of the turn are there
-    both_there : j + 1 < t.count
-    both_there = omega (arith, p.even)
+    first_is : is_none (judged_word t (2 * pair) word) ≡ true → Some (2 * pair) ≡ wrong_word (layout_of t) s
+    first_is none = found t s (2 * pair) (omega (arith, below)) right (sym first_tells ∙ none)
 
-    -- what the test says of the first word
-    module _ {word value : ℕ} {v : Bool} (high : word ≡ both / 2 ^ t.width) (decoded : value ≡ decode_under t.lead j word) (test : v ≡ rounds_up (numerator_bits t.numerator) (t.first + j) value) where
-      first_test : is_wrong (layout_of t) s j ≡ not v
-      first_test = test_tells p s j more (first_word high) decoded test
+    -- and behind it the second
+    module _ (passed : is_none (judged_word t (2 * pair) word) ≡ false) {word2 : ℕ} (low : word2 ≡ both % 2 ^ t.width) where
+      up_to_first : RightBefore t s (2 * pair + 1)
+      up_to_first = below_more _ _ right (sym first_tells ∙ passed)
 
-      first_is : v ≡ false → j ≡ first_wrong (layout_of t) s
-      first_is e = sym (lowest_is (is_wrong (layout_of t) s) t.count j more (first_test ∙ ap not e) right)
+      second_tells : is_none (judged_word t (2 * pair + 1) word2) ≡ is_wrong (layout_of t) s (2 * pair + 1)
+      second_tells =
+          judged_tells p s (2 * pair + 1) below (low ∙ ap (λ (x : ℕ). x % 2 ^ t.width) reads ∙ second_of p s bytes (2 * pair))
 
-      -- and behind it what it says of the second one
-      module _ {word2 value2 : ℕ} {v2 : Bool} (passed : v ≡ true) (low : word2 ≡ both % 2 ^ t.width) (decoded2 : value2 ≡ decode_under t.lead (j + 1) word2) (test2 : v2 ≡ rounds_up (numerator_bits t.numerator) (t.first + (j + 1)) value2) where
-        up_to_first : (i : ℕ) → i < j + 1 → is_wrong (layout_of t) s i ≡ false
-        up_to_first = below_more _ _ right (first_test ∙ ap not passed)
+      second_is : is_none (judged_word t (2 * pair + 1) word2) ≡ true → Some (2 * pair + 1) ≡ wrong_word (layout_of t) s
+      second_is none = found t s (2 * pair + 1) below up_to_first (sym second_tells ∙ none)
 
-        second_test : is_wrong (layout_of t) s (j + 1) ≡ not v2
-        second_test = test_tells p s (j + 1) both_there (second_word low) decoded2 test2
+      again : is_none (judged_word t (2 * pair + 1) word2) ≡ false → RightBefore t s (2 * (pair + 1))
+      again ok i h = below_more _ _ up_to_first (sym second_tells ∙ ok) i (omega arith)
 
-        second_is : v2 ≡ false → j + 1 ≡ first_wrong (layout_of t) s
-        second_is e = sym (lowest_is (is_wrong (layout_of t) s) t.count (j + 1) both_there (second_test ∙ ap not e) up_to_first)
-
-        again : v2 ≡ true → (i : ℕ) → i < j + 2 → is_wrong (layout_of t) s i ≡ false
-        again e i h = below_more _ _ up_to_first (second_test ∙ ap not e) i (omega arith)
+-- what the test for none says of what a call gave
+none_is : {A : Type 0} {o o' : Option A} {b d : Bool} → o ≡ o' → is_some o ≡ not b → b ≡ d → is_none o' ≡ d
+none_is {d = d} e tells is = rw e at (ap not tells ∙ ap (λ (b : Bool). not (not b)) is ∙ twice d)
+  where
+    twice : (b : Bool) → not (not b) ≡ b
+    twice true = refl
+    twice false = refl
 
 pub overflow_cast-high : goal.overflow_cast-high
 overflow_cast-high c =
-    let l = c.loop-j in
-    record { fits = first-fits c.args.table c.requires c.args.image.now (λ i. omega (arith, c.type_inv.image i)) l.j l.bit c.field-both.result l.invariant.3 c.field-both.ensures.value c.high.ensures }
+    record { fits = first-fits c.args.table c.requires c.args.image.now (λ i. omega (arith, c.type_inv.image i)) c.loop-pair.pair c.loop-pair-test.true c.loop-pair.invariant.0 c.loop-pair.invariant.1 c.field-both.ensures.value c.high.ensures }
 
-pub overflow_cast-even : goal.overflow_cast-even
-overflow_cast-even c =
-    let l = c.loop-j in
-    record { fits = value_fits c.args.table c.requires c.args.image.now (λ i. omega (arith, c.type_inv.image i)) l.j l.bit c.field-both.result l.invariant.3 c.field-both.ensures.value c.high.ensures c.decoded-even.ensures }
+pub returns-then-is_none : goal.returns-then-is_none
+returns-then-is_none c =
+    let none = none_is c.judged.ensures c.is_none.ensures c.if-is_none.true in
+    first_is c.args.table c.requires c.args.image.now (λ i. omega (arith, c.type_inv.image i)) c.loop-pair.pair c.loop-pair-test.true c.loop-pair.invariant.0 c.loop-pair.invariant.1 c.field-both.ensures.value c.high.ensures none
 
-pub returns-then-not-rounds_up : goal.returns-then-not-rounds_up
-returns-then-not-rounds_up c =
-    let l = c.loop-j in
-    first_is c.args.table c.requires c.args.image.now (λ i. omega (arith, c.type_inv.image i)) l.j l.bit c.field-both.result l.invariant.3 c.field-both.ensures.value l.invariant.0 c.loop-j-test.true l.invariant.2 c.high.ensures c.decoded-even.ensures c.rounds_up.ensures c.if-not-rounds_up.true
+pub returns-then-is_none-2 : goal.returns-then-is_none-2
+returns-then-is_none-2 c =
+    let ok = none_is c.judged.ensures c.is_none.ensures c.if-is_none.false in
+    let none = none_is c.judged-in-loop-pair.ensures c.is_none-in-loop-pair.ensures c.if-is_none-2.true in
+    second_is c.args.table c.requires c.args.image.now (λ i. omega (arith, c.type_inv.image i)) c.loop-pair.pair c.loop-pair-test.true c.loop-pair.invariant.0 c.loop-pair.invariant.1 c.field-both.ensures.value c.high.ensures ok c.low.ensures none
 
-pub returns-then-not-rounds_up-2 : goal.returns-then-not-rounds_up-2
-returns-then-not-rounds_up-2 c =
-    let l = c.loop-j in
-    second_is c.args.table c.requires c.args.image.now (λ i. omega (arith, c.type_inv.image i)) l.j l.bit c.field-both.result l.invariant.3 c.field-both.ensures.value l.invariant.0 c.loop-j-test.true l.invariant.2 c.high.ensures c.decoded-even.ensures c.rounds_up.ensures c.if-not-rounds_up.false c.low.ensures c.decoded-odd.ensures c.rounds_up-in-loop-j.ensures c.if-not-rounds_up-2.true
-
-pub loop-j-preserved : goal.loop-j-preserved
-loop-j-preserved c =
-    let l = c.loop-j in (
-      omega (arith, l.invariant.0),
-      omega (arith, l.invariant.0, c.requires.even, c.loop-j-test.true),
-      again c.args.table c.requires c.args.image.now (λ i. omega (arith, c.type_inv.image i)) l.j l.bit c.field-both.result l.invariant.3 c.field-both.ensures.value l.invariant.0 c.loop-j-test.true l.invariant.2 c.high.ensures c.decoded-even.ensures c.rounds_up.ensures c.if-not-rounds_up.false c.low.ensures c.decoded-odd.ensures c.rounds_up-in-loop-j.ensures c.if-not-rounds_up-2.false,
-      omega (arith, l.invariant.3),
+pub loop-pair-preserved : goal.loop-pair-preserved
+loop-pair-preserved c =
+    let ok = none_is c.judged.ensures c.is_none.ensures c.if-is_none.false in
+    let ok-too = none_is c.judged-in-loop-pair.ensures c.is_none-in-loop-pair.ensures c.if-is_none-2.false in (
+      again c.args.table c.requires c.args.image.now (λ i. omega (arith, c.type_inv.image i)) c.loop-pair.pair c.loop-pair-test.true c.loop-pair.invariant.0 c.loop-pair.invariant.1 c.field-both.ensures.value c.high.ensures ok c.low.ensures ok-too,
+      omega (arith, c.loop-pair.invariant.1),
     )
 
 pub returns : goal.returns
 returns c =
     let t = c.args.table in
-    let all : t.count ≤ c.loop-j.j = omega (arith, c.loop-j-test.false) in
-    sym (lowest_none (is_wrong (layout_of t) c.args.image.now) t.count (λ i h. c.loop-j.invariant.2 i (omega arith)))
+    none_found t c.args.image.now (λ i h. c.loop-pair.invariant.0 i (omega (arith, c.requires.even, c.loop-pair-test.false, h)))

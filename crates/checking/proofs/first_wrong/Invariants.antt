@@ -1,16 +1,11 @@
--- `checking::first_wrong` meets its contract. The loop's invariant: j is even, no word before word j is wrong, and `bit` is where that word
--- starts. The measure is the number of words left.
+-- The loop of `checking::first_wrong`: no word before those that are read next is wrong, and `bit` is where they start.
 -- Assumes nothing.
 use mathlib.Core.Path.{◌≡◌}
 use mathlib.Core.Bool.{false}
-use Prim.Native.Nat.{ℕ, ◌-◌, ◌*◌, ◌%◌, ◌≤◌, ◌<◌}
+use Prim.Native.Nat.{ℕ, ◌*◌, ◌<◌}
 use Rattle.layout.specs.Layout.{is_wrong}
 use Rattle.image.specs.Inner.{layout_of}
 use Rattle.checking.proofs.first_wrong.Given as goal
 
-abbrev pub invariant-loop-j : goal.invariant-loop-j
-invariant-loop-j l =
-    (l.j % 2 ≡ 0) × (l.j ≤ l.fn.table.count) × ((i : ℕ) → i < l.j → is_wrong (layout_of l.fn.table) l.image i ≡ false) × (l.bit ≡ l.j * l.fn.table.width)
-
-abbrev pub decreases-loop-j : goal.decreases-loop-j
-decreases-loop-j l = l.count - l.j
+abbrev pub invariant-loop-pair : goal.invariant-loop-pair
+invariant-loop-pair l = ((i : ℕ) → i < 2 * l.pair → is_wrong (layout_of l.fn.table) l.image i ≡ false) × (l.bit ≡ 2 * l.pair * l.fn.table.width)

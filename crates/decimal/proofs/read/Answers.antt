@@ -5,16 +5,15 @@ use native.Mathlib.Omega.{arith}
 use Rattle.decimal.proofs.Steps.{at_over}
 use Rattle.decimal.proofs.read.Goals as goal
 
-pub returns-then-value-gt1844674407370955161 : goal.returns-then-value-gt1844674407370955161
-returns-then-value-gt1844674407370955161 c =
-    let l = c.loop-at in
-    sym (l.invariant.2
-    ∙ at_over c.args.s.now l.value l.at
-    c.loop-at-test.true (omega arith) (omega arith))
+pub returns-in_err-checked_mul : goal.returns-in_err-checked_mul
+returns-in_err-checked_mul c =
+    let l = c.loop-b in
+    let over = c.in_err-checked_mul.ensures in
+    c.from_residual.ensures ∙ sym (l.invariant.1 ∙ at_over c.args.s.now l.value l.b-index c.loop-b-test.true (omega arith) (omega arith))
 
-pub returns-then-digit-tens : goal.returns-then-digit-tens
-returns-then-digit-tens c =
-    let l = c.loop-at in
-    sym (l.invariant.2
-    ∙ at_over c.args.s.now l.value l.at
-    c.loop-at-test.true (omega arith) (omega arith))
+pub returns-in_err-value : goal.returns-in_err-value
+returns-in_err-value c =
+    let l = c.loop-b in
+    let over = c.in_err-value.ensures in
+    let tens = c.in_ok-checked_mul.ensures in
+    c.from_residual-in_err-value.ensures ∙ sym (l.invariant.1 ∙ at_over c.args.s.now l.value l.b-index c.loop-b-test.true (omega arith) (omega arith))

@@ -2,21 +2,24 @@
 -- Assumes nothing.
 use mathlib.Core.Path.{◌≡◌, sym, ap, ap₂, ◌∙◌}
 use mathlib.Core.List.{List}
-use Prim.Native.Nat.{ℕ, ◌+◌, ◌-◌, ◌*◌, ◌/◌, ◌%◌, ◌^◌, ◌<◌}
+use Prim.Native.Nat.{ℕ, ◌+◌, ◌*◌, ◌/◌, ◌%◌, ◌^◌, ◌<◌}
 use native.Mathlib.Omega.{arith}
+use Rattle.std.proofs.Common.{Result}
+use Rattle.units.specs.declared.Ulps.{Ulps}
+use Rattle.answers.specs.declared.Refused.{Refused}
 use Rattle.precision.specs.Precision.{word_width}
 use Rattle.packing.specs.Packing.{Bytes}
 use Rattle.packing.specs.Inner.{window_at}
 use Rattle.packing.proofs.Fields.{window_field}
-use Rattle.answers.specs.Answer.{reciprocal_given}
+use Rattle.answers.specs.Answer.{outcome_of_ulps}
 use Rattle.image.specs.Inner.{own_bytes}
-use Rattle.image.proofs.Limits.{ImageKept, limit_none, limit_kept}
+use Rattle.image.proofs.Limits.{ImageKept}
 use Rattle.image.proofs.OwnBytes.{own-bytes}
 use Rattle.interpolation.specs.Algorithm.{node_number}
 use Rattle.interpolation.specs.Inner.{cut_of, cut_outcome}
 use Rattle.interpolation.proofs.Cut.{cut_number_below, bits_number, bits_fraction, bits_least, bits_most}
-use Rattle.inverting.specs.Inner.{IsCut, IsPieceOf, both_in, ends_outcome, outcome_of}
-use Rattle.inverting.proofs.Ends.{both_words, ends_of_cut, code_served, code_wrong}
+use Rattle.inverting.specs.Inner.{IsCut, IsPieceOf, both_in, ends_outcome}
+use Rattle.inverting.proofs.Ends.{both_words, ends_of_cut}
 use Rattle.inverting.proofs.of_cut.Goals as goal
 
 -- k, the image and the fraction bits keep their limits, and the bytes are bytes
@@ -29,7 +32,7 @@ module _ (k : ℕ) (s : List ℕ) (bits : ℕ) (p : IsCut k s bits) where
   most = bits_most k bits p.below
 
   kept : ImageKept k s
-  kept = limit_kept k s (limit_none k s p.low p.high p.long)
+  kept = record { low = p.low; high = p.high; long = p.long }
 
   -- the number j that the code has is below 2^k
   module _ {j : ℕ} (high : j ≡ bits / 2 ^ (k + 3)) where
@@ -52,31 +55,19 @@ module _ (k : ℕ) (s : List ℕ) (bits : ℕ) (p : IsCut k s bits) where
           ∙ window_field (own_bytes k s) (node_number k t * word_width k) (2 * word_width k) (own-bytes k s kept bytes) (omega (arith, p.high))
 
       -- and what they give is the answer
-      answers : (code : ℕ) {own : List ℕ} {width x : ℕ} → own ≡ own_bytes k s → width ≡ word_width k → x ≡ window_at own (j * width)
-          → outcome_of code ≡ ends_outcome k (both_in k x) j (bits % 2 ^ (k + 3)) → outcome_of code ≡ cut_outcome k s t
-      answers code is-own is_width read e =
+      answers : (answer : Result Ulps Refused) {own : List ℕ} {width x : ℕ} → own ≡ own_bytes k s → width ≡ word_width k → x ≡ window_at own (j * width)
+          → outcome_of_ulps answer ≡ ends_outcome k (both_in k x) j (bits % 2 ^ (k + 3)) → outcome_of_ulps answer ≡ cut_outcome k s t
+      answers answer is-own is_width read e =
           e
           ∙ ap (λ (b : ℕ). ends_outcome k b j (bits % 2 ^ (k + 3))) (reads is-own is_width read)
           ∙ ap₂ (ends_outcome k (both_words k s t kept (bits_least k bits) most bytes)) is_number (sym (bits_fraction k bits))
           ∙ ends_of_cut k s t kept (bits_least k bits) most bytes
 
-pub by_precision-code-requires : goal.by_precision-code-requires
-by_precision-code-requires c = is_piece c.args.k.0 c.args.image.now c.args.kept c.requires c.high-j.ensures
-
-pub returns-then-code-lt4294967296 : goal.returns-then-code-lt4294967296
-returns-then-code-lt4294967296 c =
-    let a = c.args in
-    let code = c.by_precision-code.result in
-    let bytes : Bytes a.image.now = λ i. omega (arith, c.type_inv.image i) in
-    ap reciprocal_given
-    (sym (code_served code (omega (arith, c.if-code-lt4294967296.true)))
-    ∙ answers a.k.0 a.image.now a.kept c.requires c.high-j.ensures bytes code c.own_bytes.ensures.bytes c.word_width-width.ensures c.window-window.ensures c.by_precision-code.ensures)
+pub by_precision-requires : goal.by_precision-requires
+by_precision-requires c = is_piece c.args.k.0 c.args.image.now c.args.kept c.requires c.high-j.ensures
 
 pub returns : goal.returns
 returns c =
     let a = c.args in
-    let code = c.by_precision-code.result in
     let bytes : Bytes a.image.now = λ i. omega (arith, c.type_inv.image i) in
-    ap reciprocal_given
-    (sym (code_wrong code (code - 2 ^ 32) (omega (arith, c.if-code-lt4294967296.false)))
-    ∙ answers a.k.0 a.image.now a.kept c.requires c.high-j.ensures bytes code c.own_bytes.ensures.bytes c.word_width-width.ensures c.window-window.ensures c.by_precision-code.ensures)
+    answers a.k.0 a.image.now a.kept c.requires c.high-j.ensures bytes c.by_precision.result c.own_bytes.ensures.bytes c.word_width-width.ensures c.window-window.ensures c.by_precision.ensures

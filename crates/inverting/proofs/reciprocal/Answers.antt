@@ -1,29 +1,29 @@
 -- `inverting::reciprocal` meets its contract: the limits of k and the image, those of n and X, and then the cut operand.
 -- Assumes nothing.
 use mathlib.Core.Path.{◌≡◌, refl, sym, ap, ◌∙◌}
-use mathlib.Core.List.{List, ◌∷◌}
+use mathlib.Core.Bool.{false}
+use mathlib.Core.List.{List, ◌++◌}
 use Prim.Native.Nat.{ℕ, ◌+◌, ◌*◌, ◌%◌, ◌^◌}
 use native.Mathlib.Nat.{mod-lt}
 use native.Mathlib.Omega.{arith}
 use lib.Pow.{pow_pos}
 use lib.ListN.{length}
 use borrow.Author.Tests.{le-leb}
-use Rattle.answers.specs.Refusal.{Refusal}
-use Rattle.answers.specs.Answer.{reciprocal_given}
-use Rattle.image.specs.Inner.{refusal_number}
-use Rattle.image.proofs.Limits.{limit_passes, limit_kept}
+use Rattle.answers.specs.Refusal.{Refusal, some_applies}
+use Rattle.image.specs.Refusals.{limits}
+use Rattle.image.proofs.Limits.{limit_passes, limit_clear, clear_kept}
 use Rattle.operand.specs.Operand.{cut_operand}
-use Rattle.operand.specs.Refusals.{fraction_refusal, operand_refusal}
-use Rattle.operand.specs.Inner.{operand_number, cut_fraction}
+use Rattle.operand.specs.Refusals.{operand_refusals}
+use Rattle.operand.specs.Inner.{cut_fraction}
 use Rattle.operand.proofs.Laws.{cut_leading}
-use Rattle.operand.proofs.Limits.{operand_passes, operand_kept}
+use Rattle.operand.proofs.Limits.{operand_passes, operand_clear, operand_kept}
 use Rattle.interpolation.specs.Reciprocal.{read_reciprocal}
 use Rattle.interpolation.specs.Calls.{cut_refusals, reciprocal_outcome}
 use Rattle.interpolation.specs.Inner.{cut_of, cut_outcome}
 use Rattle.inverting.specs.Inner.{IsCut}
 use Rattle.inverting.proofs.reciprocal.Goals as goal
 
--- the answer, by the two numbers that the code tests
+-- the answer, where the limits are kept
 module _ (k : ℕ) (s : List ℕ) (n X : ℕ) where
   abbrev R : ℕ
   R = read_reciprocal k s (cut_operand k n X)
@@ -32,16 +32,16 @@ module _ (k : ℕ) (s : List ℕ) (n X : ℕ) where
   words = cut_refusals k s (cut_operand k n X)
 
   abbrev later : List Refusal
-  later = fraction_refusal n ∷ operand_refusal n X ∷ words
+  later = operand_refusals n X ++ words
 
   -- behind the first test k and the image keep their limits
-  module _ (kept : refusal_number k (length s) ≡ 0) where
+  module _ (kept : some_applies (limits k (length s)) ≡ false) where
     -- behind the second n and X keep theirs, and the bits that are handed on are the fraction bits of t
-    module _ (kept-too : operand_number n X ≡ 0) (bits : ℕ) (cut : bits ≡ cut_fraction (2 * k + 3) n X) where
+    module _ (kept-too : some_applies (operand_refusals n X) ≡ false) (bits : ℕ) (cut : bits ≡ cut_fraction (2 * k + 3) n X) where
       are_bits : bits ≡ cut_operand k n X % 2 ^ (2 * k + 3)
       are_bits =
           cut
-          ∙ rw (le-leb n 63 (operand_kept n X kept-too).high, le-leb (2 * k + 3) 63 (omega (arith, (limit_kept k s kept).high))) refl
+          ∙ rw (le-leb n 63 (operand_kept n X kept-too).high, le-leb (2 * k + 3) 63 (omega (arith, (clear_kept k s kept).high))) refl
 
       whole : cut_of k bits ≡ cut_operand k n X
       whole =
@@ -54,14 +54,21 @@ module _ (k : ℕ) (s : List ℕ) (n X : ℕ) where
 
       cut_is : IsCut k s bits
       cut_is =
-          let a = limit_kept k s kept in
+          let a = clear_kept k s kept in
           record { low = a.low; high = a.high; long = a.long; below = rw are_bits (mod-lt (cut_operand k n X) (pow_pos (2 * k + 3))) }
 
 -- behind both
 pub returns : goal.returns
 returns c =
     let a = c.args in
+    let s = a.image.now in
     c.of_cut.ensures
-    ∙ ap reciprocal_given
-    (cut_given a.k.0 a.image.now a.n a.x (omega (arith, c.refusal_number-limit.ensures, c.if-limit-ne0.false))
-    (omega (arith, c.refusal_number-number.ensures, c.if-number-ne0.false)) c.cut.result c.cut.ensures)
+    ∙ cut_given a.k.0 s a.operand.n a.operand.x (limit_clear a.k.0 s c.in_ok-table.ensures.refusals) (operand_clear a.operand.n a.operand.x c.in_ok-limits.ensures.value)
+    c.cut.result c.cut.ensures
+
+pub of_cut-requires : goal.of_cut-requires
+of_cut-requires c =
+    let a = c.args in
+    let s = a.image.now in
+    cut_is a.k.0 s a.operand.n a.operand.x (limit_clear a.k.0 s c.in_ok-table.ensures.refusals) (operand_clear a.operand.n a.operand.x c.in_ok-limits.ensures.value) c.cut.result
+    c.cut.ensures

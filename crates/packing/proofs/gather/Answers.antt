@@ -1,28 +1,15 @@
--- `packing::gather` meets its contract: a turn makes the value 256 times as large and adds a byte, and eight bytes have their place in 64 bits.
--- Assumes nothing.
-use Rattle.std.proofs.Common.{ℕ, ◌+◌, ◌-◌, ◌*◌, ◌≤◌, get_or, sym, ap, ◌∙◌, arith, pow_mono}
-use Rattle.packing.proofs.Bytes.{value_step, value_step_lt}
+-- `packing::gather` meets its contract: behind fewer than eight bytes a byte more has its place in 64 bits. Assumes nothing.
+use Rattle.std.proofs.Common.{◌-◌, arith}
+use Rattle.packing.specs.Packing.{Bytes}
+use Rattle.packing.proofs.Bytes.{value_lt_56}
 use Rattle.packing.proofs.gather.Goals as goal
 
 pub overflow_mul-value : goal.overflow_mul-value
 overflow_mul-value c =
-    let h : 8 * (c.loop-at.at - c.args.first) ≤ 56 = omega arith in
-    omega (arith, pow_mono h)
+    let bytes : Bytes c.args.s.now = λ i. omega (arith, c.type_inv.s i) in
+    omega (arith, c.loop-at.invariant.1, value_lt_56 c.args.s.now c.args.first (c.loop-at.at - c.args.first) bytes (omega arith))
 
 pub overflow_add-value : goal.overflow_add-value
 overflow_add-value c =
-    let h : 8 * (c.loop-at.at - c.args.first) ≤ 56 = omega arith in
-    omega (arith, pow_mono h, c.shared_slice_known-1.given c.loop-at.at)
-
-pub loop-at-preserved : goal.loop-at-preserved
-loop-at-preserved c =
-    let s = c.args.s.now in
-    let first = c.args.first in
-    let at = c.loop-at.at in
-    let value = c.loop-at.value in
-    let inv = c.loop-at.invariant in (
-      omega arith,
-      omega arith,
-      ap (λ (x : ℕ). x * 256 + get_or s at 0) inv.2 ∙ sym (value_step s first at inv.0),
-      value_step_lt value (get_or s at 0) first at inv.0 inv.3 (omega (arith, c.shared_slice_known-1.given at)),
-    )
+    let bytes : Bytes c.args.s.now = λ i. omega (arith, c.type_inv.s i) in
+    omega (arith, c.loop-at.invariant.1, value_lt_56 c.args.s.now c.args.first (c.loop-at.at - c.args.first) bytes (omega arith), bytes c.loop-at.at)

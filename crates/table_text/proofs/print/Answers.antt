@@ -1,37 +1,36 @@
--- `table_text::print` meets its contract: no room, a refusal, or the table.
+-- `table_text::print` meets its contract: no room, or the text of the input.
 -- Assumes nothing.
-use mathlib.Core.Path.{◌≡◌, refl, sym, ap, ◌∙◌}
-use mathlib.Core.Bool.{true, false}
+use mathlib.Core.Path.{◌≡◌, refl, sym, ◌∙◌}
+use mathlib.Core.List.{List}
+use Prim.Native.Nat.{ℕ, ◌<◌, ◌≤◌}
+use Rattle.std.proofs.Common.{rules}
 use native.Mathlib.Omega.{arith}
 use borrow.Author.Tests.{le-leb, lt-leb}
 use lib.ListN.{length}
-use Rattle.decimal.proofs.Writing.{wrote_room}
-use Rattle.precision.specs.Precision.{in_range}
-use Rattle.lines.specs.Lines.{refused_text}
-use Rattle.lines.specs.Inner.{longest_refusal}
-use Rattle.table_text.specs.TableText.{longest_text, precision_of, printed, printed_length}
-use Rattle.table_text.proofs.LineLaws.{text-refused, text_table}
+use Rattle.decimal.specs.Text.{written}
+use Rattle.table_text.specs.TableText.{precision_of, text_of, table_text, longest_text, printed, printed_length}
 use Rattle.table_text.proofs.print.Goals as goal
 
-pub returns-then-out-lt-LONGEST_TEXT : goal.returns-then-out-lt-LONGEST_TEXT
-unfolding printed printed_length
-returns-then-out-lt-LONGEST_TEXT c =
-    rw (lt-leb longest_text (length c.args.out.now) (omega arith)) record { value = refl; out_after = refl; longest_text_value = refl }
+-- without room nothing is printed, and with room the text of the precision that is requested
+module _ (input out : List ℕ) where
+  nothing : length out < longest_text → (printed_length input out ≡ 0) × (printed input out ≡ out)
+  unfolding printed printed_length
+  nothing h = rw (lt-leb longest_text (length out) h) (refl, refl)
 
-pub returns-then-not-in_range : goal.returns-then-not-in_range
-unfolding printed printed_length
-returns-then-not-in_range c =
-    let a = c.args in
-    let shut : in_range (precision_of a.input.now) ≡ false =
-    ap in_range (sym c.requested-k.ensures) ∙ sym c.in_range.ensures.value ∙ c.if-not-in_range.true in
-    let w = wrote_room a.out.now 0 longest_refusal (refused_text 1) (omega arith) c.put_refused.ensures.value c.put_refused.ensures.out_after in
-    rw (le-leb longest_text (length a.out.now) (omega arith), text-refused a.input.now shut) record { value = omega (arith, w.place); out_after = w.bytes; longest_text_value = refl }
+  text : {k : ℕ} → longest_text ≤ length out → k ≡ precision_of input → (printed_length input out ≡ length (text_of k)) × (printed input out ≡ written out 0 (text_of k))
+  unfolding printed printed_length table_text
+  text h e = rw (le-leb longest_text (length out) h, e) (refl, refl)
 
-pub returns : goal.returns
-unfolding printed printed_length
-returns c =
-    let a = c.args in
-    let served : in_range (precision_of a.input.now) ≡ true =
-    ap in_range (sym c.requested-k.ensures) ∙ sym c.in_range.ensures.value ∙ c.if-not-in_range.false in
-    let w = c.table.ensures in
-    rw (le-leb longest_text (length a.out.now) (omega arith), text_table a.input.now served, ← c.requested-k.ensures) record { value = omega (arith, w.place); out_after = w.bytes; longest_text_value = refl }
+pub returns-then-out-lt-LONGEST_TEXT-clause-value : goal.returns-then-out-lt-LONGEST_TEXT-clause-value
+returns-then-out-lt-LONGEST_TEXT-clause-value c = sym (nothing c.args.input.now c.args.out.now (omega arith)).0
+
+pub returns-then-out-lt-LONGEST_TEXT-clause-out_after : goal.returns-then-out-lt-LONGEST_TEXT-clause-out_after
+returns-then-out-lt-LONGEST_TEXT-clause-out_after c = sym (nothing c.args.input.now c.args.out.now (omega arith)).1
+
+pub returns-clause-value : goal.returns-clause-value
+returns-clause-value c = omega (arith, c.table.ensures.place, (text c.args.input.now c.args.out.now (omega arith) c.requested.ensures).0)
+
+pub returns-clause-out_after : goal.returns-clause-out_after
+returns-clause-out_after c =
+    let e = c.table.ensures.bytes ∙ sym (text c.args.input.now c.args.out.now (omega arith) c.requested.ensures).1 in
+    rw (← e) (search rules)

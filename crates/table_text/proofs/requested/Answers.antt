@@ -2,21 +2,13 @@
 -- Assumes nothing.
 use mathlib.Core.Path.{sym, ◌∙◌}
 use native.Mathlib.Omega.{arith}
-use Rattle.lines.proofs.ReadLines.{read_below}
-use Rattle.table_text.proofs.Requests.{request_found}
+use Rattle.table_text.proofs.Requests.{request_found, request_fits}
 use Rattle.table_text.proofs.requested.Goals as goal
 
 pub overflow_cast-result : goal.overflow_cast-result
 overflow_cast-result c =
     let s = c.args.input.now in
-    omega (arith, read_below s _ _ (sym c.read-found.ensures ∙ c.in-Number.is))
+    omega (arith, c.unwrap_or-k.ensures ∙ sym (request_found s (sym c.read.ensures)), request_fits s)
 
-pub returns-in-Number : goal.returns-in-Number
-returns-in-Number c =
-    let s = c.args.input.now in
-    sym (request_found s (sym c.read-found.ensures ∙ c.in-Number.is))
-
-pub returns-in-Other : goal.returns-in-Other
-returns-in-Other c =
-    let s = c.args.input.now in
-    sym (request_found s (sym c.read-found.ensures ∙ c.in-Other.is))
+pub returns : goal.returns
+returns c = c.unwrap_or-k.ensures ∙ sym (request_found c.args.input.now (sym c.read.ensures))

@@ -1,14 +1,10 @@
--- The loop of `tail::clear`: zeros are written from the first byte up to the next one. The measure is the number of
--- bytes left.
+-- The loop of `tail::clear`: the bytes up to the next one are zeros, and those from there on are as they were.
 -- Assumes nothing.
 use mathlib.Core.Path.{◌≡◌}
-use Prim.Native.Nat.{◌+◌, ◌-◌, ◌≤◌}
-use lib.ListN.{length}
-use Rattle.tail.proofs.Writing.{cleared_to}
+use mathlib.Core.List.{◌++◌}
+use lib.ListN.{drop}
+use Rattle.tail.specs.Tail.{zeros}
 use Rattle.tail.proofs.clear.Given as goal
 
-abbrev pub invariant-loop-i : goal.invariant-loop-i
-invariant-loop-i l = (l.s ≡ cleared_to l.from l.i l.initial.s) × (length l.s ≡ length l.initial.s) × (l.from ≤ l.i) × (l.i ≤ l.from + (length l.initial.s - l.from))
-
-abbrev pub decreases-loop-i : goal.decreases-loop-i
-decreases-loop-i l = length l.initial.s - l.i
+abbrev pub invariant-loop-byte : goal.invariant-loop-byte
+invariant-loop-byte l = l.byte-items ≡ zeros l.byte-index ++ drop l.byte-index l.initial.byte-items

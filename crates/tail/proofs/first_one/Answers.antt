@@ -7,12 +7,14 @@ use mathlib.Core.Bool.{false, not}
 use mathlib.Core.List.{List}
 use Prim.Native.Nat.{ℕ, ◌+◌, ◌-◌, ◌*◌, ◌/◌, ◌%◌, ◌^◌, ◌≤◌, ◌<◌}
 use native.Mathlib.Omega.{arith}
-use lib.Dec.{eqb}
+use lib.Dec.{eqb, ltb}
 use lib.ListN.{length, get_or}
+use borrow.Author.Tests.{ltb-true, ltb-false}
+use Rattle.std.specs.Prelude.{Some, None, if◌then◌else◌}
 use Rattle.bools.proofs.Bools.{below_or_not}
-use Rattle.bools.proofs.Lowest.{lowest_is, lowest_none, lowest_agrees}
-use Rattle.tail.specs.Tail.{bits_from, has_one_from, first_one_from}
-use Rattle.tail.proofs.Laws.{bits_none, bits_one, byte_before, byte_from}
+use Rattle.bools.proofs.Lowest.{lowest_agrees}
+use Rattle.tail.specs.Tail.{bits_from, has_one_from, first_one_in}
+use Rattle.tail.proofs.Laws.{bits_none, bits_one, byte_before, byte_from, one_is, one_nowhere}
 use Rattle.tail.proofs.first_one.Goals as goal
 
 module _ (b : ℕ) (s : List ℕ) where
@@ -28,8 +30,10 @@ module _ (b : ℕ) (s : List ℕ) where
       same = omega arith
 
   -- where it has no one it may be passed
-  pass : bits_from b s (b / 8) ≡ 0 → first_one_from (8 * (b / 8 + 1)) s ≡ first_one_from b s
-  pass e = lowest_agrees (has_one_from (8 * (b / 8 + 1)) s) (has_one_from b s) (length s) agrees
+  pass : bits_from b s (b / 8) ≡ 0 → first_one_in (8 * (b / 8 + 1)) s ≡ first_one_in b s
+  pass e =
+      ap (λ (n : ℕ). if ltb n (length s) then Some n else None)
+      (lowest_agrees (has_one_from (8 * (b / 8 + 1)) s) (has_one_from b s) (length s) agrees)
     where
       none : (i : ℕ) → i < b / 8 + 1 → has_one_from b s i ≡ false
       none i h =
@@ -45,21 +49,24 @@ module _ (b : ℕ) (s : List ℕ) where
           (below_or_not i (b / 8 + 1))
 
 -- they begin behind the last byte
-pub returns-then-s-first : goal.returns-then-s-first
-returns-then-s-first c =
+pub returns-in_err-byte : goal.returns-in_err-byte
+returns-in_err-byte c =
     let a = c.args in
-    let past : length a.s.now ≤ a.bit / 8 = c.if-s-first.true in
-    sym (lowest_none (has_one_from a.bit a.s.now) (length a.s.now) (λ i h. before a.bit a.s.now i (omega (arith, h, past))))
+    let past : length a.s.now ≤ a.bit / 8 = ltb-false (a.bit / 8) (length a.s.now) (sym c.in_err-byte.ensures.lookup.0) in
+    c.from_residual.ensures ∙ one_nowhere a.bit a.s.now (λ i h. before a.bit a.s.now i (omega (arith, h, past)))
 
 pub returns : goal.returns
 returns c =
     let a = c.args in
-    c.first_set-2.ensures ∙ pass a.bit a.s.now (sym (c.low.ensures ∙ here a.bit a.s.now) ∙ c.if-low-ne0.false)
+    let byte = c.in_ok-byte.ensures.lookup.3.1 0 in
+    let low = c.low.ensures ∙ ap (λ (x : ℕ). x % 2 ^ (8 - a.bit % 8)) byte ∙ here a.bit a.s.now in
+    c.first_set-2.ensures ∙ pass a.bit a.s.now (sym low ∙ c.if-low-ne0.false)
 
 pub returns-then-low-ne0 : goal.returns-then-low-ne0
 returns-then-low-ne0 c =
     let a = c.args in
-    sym (lowest_is (has_one_from a.bit a.s.now) (length a.s.now) (a.bit / 8)
-    (omega (arith, c.if-s-first.false))
-    (bits_one a.bit a.s.now (a.bit / 8) (λ e. c.if-low-ne0.true (c.low.ensures ∙ here a.bit a.s.now ∙ e)))
-    (before a.bit a.s.now))
+    let look = c.in_ok-byte.ensures.lookup in
+    let low = c.low.ensures ∙ ap (λ (x : ℕ). x % 2 ^ (8 - a.bit % 8)) (look.3.1 0) ∙ here a.bit a.s.now in
+    one_is a.bit a.s.now (a.bit / 8) (ltb-true (a.bit / 8) (length a.s.now) (sym look.0))
+    (bits_one a.bit a.s.now (a.bit / 8) (λ e. c.if-low-ne0.true (low ∙ e)))
+    (before a.bit a.s.now)

@@ -1,16 +1,18 @@
 -- `nodes::node_8` meets its contract: the table's entries are the nodes of precision 8, by one test over the whole table.
 -- Assumes nothing.
-use mathlib.Core.Path.{refl}
+use mathlib.Core.Path.{refl, ap}
+use Prim.Native.Nat.{ℕ}
 use native.Mathlib.Omega.{arith}
 use borrow.Author.Rules.{rules}
+use Rattle.std.proofs.Common.{Some}
 use Rattle.constant_lists.proofs.List.{read, entry}
 use Rattle.quotient.specs.Quotient.{rounded_up}
 use Rattle.nodes.specs.Nodes.{node}
-use Rattle.nodes.proofs.Nodes.{node_there}
+use Rattle.nodes.proofs.Nodes.{node_given}
 use Rattle.nodes.proofs.eight.node_8.Goals as goal
 
 pub returns : goal.returns
 unfolding rounded_up
 returns c =
     let j = c.args.j in
-    rw (c.wide.ensures, read, node_there 8 refl j (omega arith)) (entry (node 8) _ j (search rules) refl)
+    rw (c.wide.ensures, node_given 8 refl j (omega arith)) (ap (λ (n : ℕ). Some (record { 0 = n })) (rw read (entry (node 8) _ j (search rules) refl)))

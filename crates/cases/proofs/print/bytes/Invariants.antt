@@ -1,9 +1,0 @@
--- `cases::print::bytes` is safe and ends.
-use Rattle.std.proofs.Common.{◌-◌, ◌≤◌, length}
-use Rattle.cases.proofs.print.bytes.Given as goal
-
-abbrev pub invariant-loop-i : goal.invariant-loop-i
-invariant-loop-i g l = 0 ≤ l.i
-
-abbrev pub decreases-loop-i : goal.decreases-loop-i
-decreases-loop-i g l = length l.s - l.i

@@ -1,0 +1,126 @@
+// Reading the script: a command to a line, then its numbers, a space before each.
+
+use operand::Operand;
+use precision::Precision;
+use std::ops::RangeInclusive;
+
+// What a line asks for: to change the room, to build in it, or a call that only prints.
+#[derive(Drop)]
+pub(crate) enum Command<'a> {
+    Fill { first: u8, step: u8 },
+    Hex(&'a [u8]),
+    Xor { place: usize, mask: u8 },
+    Length(usize),
+    Build(Precision),
+    Print(Call),
+}
+
+// A call that only prints, with the numbers that it is made with: precisions or nodes, from the first to the last, or operands.
+#[derive(Drop)]
+pub(crate) enum Call {
+    Precision(RangeInclusive<u32>),
+    Check(RangeInclusive<u32>),
+    Node(RangeInclusive<u32>, Precision),
+    Kept(RangeInclusive<u32>, Precision),
+    Word(RangeInclusive<u32>, Precision),
+    Rule(RangeInclusive<u32>, Precision),
+    Eight(RangeInclusive<u32>),
+    Invert(Operands),
+    Around(Operands),
+    Through(Operands),
+    Show,
+}
+
+// The operands of a call at precision k: the first one, how many there are, and how far each is above the one before it.
+#[derive(Clone, Copy)]
+pub(crate) struct Operands {
+    pub(crate) k: Precision,
+    pub(crate) first: Operand,
+    pub(crate) count: u32,
+    pub(crate) step: u64,
+}
+
+impl<'a> Command<'a> {
+    // The command of a line, and None where its first word, the bytes up to the first space or the end, is no command.
+    pub(crate) fn parse(line: &'a [u8]) -> Option<Self> {
+        let mut parts = line.splitn(2, |&b| b == b' ');
+        let word = parts.next()?;
+        let rest = parts.next().unwrap_or(&[]);
+        let numbers = numbers(rest);
+        let [a, b, ..] = numbers;
+        Some(match word {
+            b"fill" => Command::Fill {
+                first: low_byte(a),
+                step: low_byte(b),
+            },
+            b"hex" => Command::Hex(rest),
+            b"xor" => Command::Xor {
+                place: low_half(a) as usize,
+                mask: low_byte(b),
+            },
+            b"length" => Command::Length(low_half(a) as usize),
+            b"build" => Command::Build(Precision(low_half(a))),
+            _ => Command::Print(Call::parse(word, numbers)?),
+        })
+    }
+}
+
+impl Call {
+    fn parse(word: &[u8], numbers: [u64; 5]) -> Option<Self> {
+        let [first, last, k, ..] = numbers.map(low_half);
+        let span = first..=last.max(first);
+        let k = Precision(k);
+        Some(match word {
+            b"precision" => Call::Precision(span),
+            b"check" => Call::Check(span),
+            b"node" => Call::Node(span, k),
+            b"kept" => Call::Kept(span, k),
+            b"word" => Call::Word(span, k),
+            b"rule" => Call::Rule(span, k),
+            b"eight" => Call::Eight(span),
+            b"invert" => Call::Invert(Operands::from(numbers)),
+            b"around" => Call::Around(Operands::from(numbers)),
+            b"through" => Call::Through(Operands::from(numbers)),
+            b"show" => Call::Show,
+            _ => return None,
+        })
+    }
+}
+
+impl From<[u64; 5]> for Operands {
+    fn from([k, n, x, count, step]: [u64; 5]) -> Self {
+        Operands {
+            k: Precision(low_half(k)),
+            first: Operand { n: low_half(n), x },
+            count: low_half(count),
+            step,
+        }
+    }
+}
+
+// The numbers of a line, 0 where there is none. No command has more than five.
+fn numbers(text: &[u8]) -> [u64; 5] {
+    let mut numbers = [0; 5];
+    for (number, word) in numbers.iter_mut().zip(text.split(|&b| b == b' ')) {
+        *number = word.iter().fold(0, |v, &b| with_digit(v, b));
+    }
+    numbers
+}
+
+// v with a digit after it, or as it is where that is too long or b is no digit.
+fn with_digit(v: u64, b: u8) -> u64 {
+    match (b, v.checked_mul(10)) {
+        (b'0'..=b'9', Some(tens)) => tens.wrapping_add(u64::from(b - b'0')),
+        _ => v,
+    }
+}
+
+// A number modulo 2^32.
+fn low_half(n: u64) -> u32 {
+    (n & 0xffff_ffff) as u32
+}
+
+// A number modulo 2^8.
+fn low_byte(n: u64) -> u8 {
+    (n & 0xff) as u8
+}
