@@ -49,8 +49,8 @@ abbrev pub outcome_of_node : Result TableUnits Refused → Outcome
 outcome_of_node = outcome_of (λ c. c.0)
 
 -- the answer of the reciprocal, in ulps
-abbrev pub outcome_of_ulps : Result Ulps Refused → Outcome
-outcome_of_ulps = outcome_of (λ R. R.0)
+abbrev pub outcome_of_reciprocal : Result Ulps Refused → Outcome
+outcome_of_reciprocal = outcome_of (λ R. R.0)
 
 -- an outcome as C has it: of the builder or of the check
 abbrev pub done : Outcome → Done

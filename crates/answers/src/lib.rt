@@ -2,7 +2,7 @@
 #![tactic(auto)]
 
 ghost use Rattle.std.specs.Prelude.{◌≡◌};
-ghost use Rattle.answers.specs.Answer.{number_of, place_of, outcome_of_done, outcome_of_node, outcome_of_ulps, done, node_read, reciprocal_given};
+ghost use Rattle.answers.specs.Answer.{number_of, place_of, outcome_of_done, outcome_of_node, outcome_of_reciprocal, done, node_read, reciprocal_given};
 
 use units::{TableUnits, Ulps};
 
@@ -123,7 +123,7 @@ impl From<Result<TableUnits, Refused>> for NodeRead {
 }
 
 impl From<Result<Ulps, Refused>> for ReciprocalGiven {
-    ghost from_gives = { λ answer c. c ≡ reciprocal_given (outcome_of_ulps answer) };
+    ghost from_gives = { λ answer c. c ≡ reciprocal_given (outcome_of_reciprocal answer) };
 
     fn from(answer: Result<Ulps, Refused>) -> ReciprocalGiven {
         match answer {

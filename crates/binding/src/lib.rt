@@ -2,7 +2,7 @@
 #![tactic(auto)]
 
 ghost use Rattle.std.specs.Prelude.{◌≡◌};
-ghost use Rattle.answers.specs.Answer.{outcome_of_node, outcome_of_ulps};
+ghost use Rattle.answers.specs.Answer.{outcome_of_node, outcome_of_reciprocal};
 ghost use Rattle.image.specs.Calls.{node_outcome};
 ghost use Rattle.interpolation.specs.Calls.{reciprocal_outcome};
 ghost use Rattle.binding.specs.Bound.{bound};
@@ -36,7 +36,7 @@ impl<'a> BoundTable<'a> {
 
     // The reciprocal of an operand, as `inverting::reciprocal` gives it.
     pub fn reciprocal(self, operand: Operand) -> Result<Ulps, Refused>
-        ensures { outcome_of_ulps result ≡ reciprocal_outcome self.entry.k.0 self.entry.image.now operand.n operand.x }
+        ensures { outcome_of_reciprocal result ≡ reciprocal_outcome self.entry.k.0 self.entry.image.now operand.n operand.x }
     {
         inverting::reciprocal(self.k, self.image, operand)
     }
@@ -51,7 +51,7 @@ pub fn bound_node(k: Precision, image: &[u8], j: u32) -> Result<TableUnits, Refu
 
 // The reciprocal of an operand through a bound table, for callers that have a precision and an image, as C has.
 pub fn bound_reciprocal(k: Precision, image: &[u8], operand: Operand) -> Result<Ulps, Refused>
-    ensures { outcome_of_ulps result ≡ reciprocal_outcome k.0 image.now operand.n operand.x }
+    ensures { outcome_of_reciprocal result ≡ reciprocal_outcome k.0 image.now operand.n operand.x }
 {
     BoundTable::new(k, image).reciprocal(operand)
 }

@@ -2,7 +2,7 @@
 #![tactic(auto)]
 
 ghost use Rattle.std.specs.Prelude.{◌≡◌};
-ghost use Rattle.answers.specs.Answer.{outcome_of_node, outcome_of_ulps};
+ghost use Rattle.answers.specs.Answer.{outcome_of_node, outcome_of_reciprocal};
 ghost use Rattle.image.specs.Calls.{node_outcome};
 ghost use Rattle.interpolation.specs.Calls.{reciprocal_outcome};
 
@@ -23,8 +23,8 @@ struct Answers {
 
 // Binds the image once, and asks the table for the reciprocals of x and y and for node j.
 fn ask(k: Precision, image: &[u8], x: Operand, y: Operand, j: u32) -> Answers
-    ensures first { outcome_of_ulps result.first ≡ reciprocal_outcome k.0 image.now x.n x.x }
-    ensures second { outcome_of_ulps result.second ≡ reciprocal_outcome k.0 image.now y.n y.x }
+    ensures first { outcome_of_reciprocal result.first ≡ reciprocal_outcome k.0 image.now x.n x.x }
+    ensures second { outcome_of_reciprocal result.second ≡ reciprocal_outcome k.0 image.now y.n y.x }
     ensures node { outcome_of_node result.node ≡ node_outcome k.0 image.now j }
 {
     let table = BoundTable::new(k, image);

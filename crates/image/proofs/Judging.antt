@@ -9,18 +9,20 @@ use native.Mathlib.Omega.{arith}
 use lib.Dec.{ltb}
 use borrow.Author.Tests.{lt-ltb, le-ltb, ltb-true, ltb-false}
 use Rattle.std.proofs.Common.{Some, None}
-use Rattle.precision.specs.Precision.{word_width}
+use Rattle.format.specs.Format.{precision_of, word_width, word_count}
+use Rattle.format.specs.declared.Format.{Format}
+use Rattle.format.proofs.Laws.{count_most}
 use Rattle.quotient.specs.Inner.{rounds_up}
-use Rattle.nodes.specs.Nodes.{numerator, node, leading_one, decode_under}
-use Rattle.nodes.specs.Inner.{quotients_of, judged_word}
-use Rattle.nodes.proofs.Nodes.{judged_is, word_judged, decode_before, decode_right, decode_last}
+use Rattle.nodes.specs.Nodes.{numerator, node, decode_under}
+use Rattle.nodes.specs.Inner.{lead_in, quotients_of, judged_word}
+use Rattle.nodes.proofs.Forms.{judged, judged_is, stands_for, decoded_under, decoded_right, decoded_last}
 use Rattle.packing.proofs.Words.{word_lt}
 use Rattle.answers.specs.Refusal.{outcome, served}
 use Rattle.answers.proofs.Order.{applied, passed}
 use Rattle.layout.specs.Layout.{is_wrong}
 use Rattle.layout.specs.Refusals.{word_refusal}
 use Rattle.layout.proofs.Laws.{not_wrong}
-use Rattle.image.specs.Image.{plain, word_of, node_of}
+use Rattle.image.specs.Image.{table_of, word_of, node_of}
 use Rattle.image.specs.Refusals.{node_refusal}
 
 -- a choice by a test and one by its opposite
@@ -28,50 +30,51 @@ turned : {A : Type 0} (x y : A) (b d : Bool) → d ≡ not b → cond b x y ≡ 
 turned x y true d e = rw e refl
 turned x y false d e = rw e refl
 
--- the word of a node below 2^k
-module _ (k : ℕ) (s : List ℕ) (j : ℕ) (h : j < 2 ^ k) where
-  -- the test of what it stands for, whose result is v, tells whether it is wrong
-  pub word_tells : {v : Bool} → v ≡ rounds_up (numerator k) (2 ^ k + j) (decode_under (leading_one k) j (word_of k s j)) → is_wrong (plain k) s j ≡ not v
-  word_tells e = ap not (sym (e ∙ word_judged k j (word_of k s j) h (word_lt (word_width k) s j)))
+-- a word that there is
+module _ (F : Format) (s : List ℕ) (j : ℕ) (h : j < word_count F) where
+  abbrev k : ℕ
+  k = precision_of F
 
-  pub refusal_tells : (word_refusal (plain k) s j).applies ≡ is_wrong (plain k) s j
-  refusal_tells = rw (lt-ltb j (2 ^ k) h)
+  -- the test of what it stands for, whose result is v, tells whether it is wrong
+  pub word_tells : {v : Bool} → v ≡ rounds_up (numerator k) (2 ^ k + j) (decode_under (lead_in F.form k) j (word_of F s j)) → is_wrong (table_of F) s j ≡ not v
+  word_tells e = ap not (sym (e ∙ judged k j (word_of F s j) F.form h (word_lt (word_width F) s j)))
+
+  pub refusal_tells : (word_refusal (table_of F) s j).applies ≡ is_wrong (table_of F) s j
+  refusal_tells = rw (lt-ltb j (word_count F) h)
 
   -- and it is what reading gives
-  pub word_value : decode_under (leading_one k) j (word_of k s j) ≡ node_of k s j
-  word_value = sym (decode_before k j (word_of k s j) h)
+  pub word_value : decode_under (lead_in F.form k) j (word_of F s j) ≡ node_of F s j
+  word_value = sym (decoded_under k j (word_of F s j) F.form h)
 
   -- so what code gives for it is that, and none where the word is wrong
-  pub word_given : k ≤ 12 → judged_word (quotients_of k) j (word_of k s j) ≡ cond (is_wrong (plain k) s j) None (Some (record { 0 = node_of k s j }))
+  pub word_given : k ≤ 12 → judged_word (quotients_of F) j (word_of F s j) ≡ cond (is_wrong (table_of F) s j) None (Some (record { 0 = node_of F s j }))
   word_given high =
-      let narrow = word_lt (word_width k) s j in
-      judged_is k high j (word_of k s j) (omega (arith, h)) narrow
-      ∙ turned _ _ (rounds_up (numerator k) (2 ^ k + j) (decode_under (leading_one k) j (word_of k s j))) (is_wrong (plain k) s j) (word_tells refl)
-      ∙ ap (λ (c : ℕ). cond (is_wrong (plain k) s j) None (Some (record { 0 = c }))) word_value
+      let narrow = word_lt (word_width F) s j in
+      judged_is F high j (word_of F s j) (omega (arith, h, count_most F.form k)) narrow
+      ∙ turned _ _ (rounds_up (numerator k) (2 ^ k + j) (stands_for F j (word_of F s j))) (is_wrong (table_of F) s j) (word_tells refl)
+      ∙ ap (λ (c : ℕ). cond (is_wrong (table_of F) s j) None (Some (record { 0 = c }))) word_value
 
--- a word that is read and not wrong stands for the node; node 2^k has none and is the node in any case
-pub right_node : (k : ℕ) (s : List ℕ) (j : ℕ) → j ≤ 2 ^ k → (word_refusal (plain k) s j).applies ≡ false → node_of k s j ≡ node k j
-right_node k s j h = by (ltb j (2 ^ k)) refl
+-- a word that is read and not wrong stands for the node; a node that has none is the last one, and is the node in any case
+pub right_node : (F : Format) (s : List ℕ) (j : ℕ) → j ≤ 2 ^ precision_of F → (word_refusal (table_of F) s j).applies ≡ false → node_of F s j ≡ node (precision_of F) j
+right_node F s j h = by (ltb j (word_count F)) refl
   where
-    by : (b : Bool) → ltb j (2 ^ k) ≡ b → (b && is_wrong (plain k) s j) ≡ false → node_of k s j ≡ node k j
-    by true below right = decode_right k j (word_of k s j) (ltb-true j (2 ^ k) below) (not_wrong (plain k) s j right)
-    by false past right =
-        let same : j ≡ 2 ^ k = omega (arith, ltb-false j (2 ^ k) past) in
-        ap (node_of k s) same ∙ decode_last k (word_of k s (2 ^ k)) ∙ ap (node k) (sym same)
+    by : (b : Bool) → ltb j (word_count F) ≡ b → (b && is_wrong (table_of F) s j) ≡ false → node_of F s j ≡ node (precision_of F) j
+    by true below right = decoded_right (precision_of F) j (word_of F s j) F.form (ltb-true j (word_count F) below) (not_wrong (table_of F) s j right)
+    by false past right = decoded_last (precision_of F) j (word_of F s j) F.form (ltb-false j (word_count F) past) h
 
--- node 2^k has no word, and never gives 6
-pub last_passes : (k : ℕ) (s : List ℕ) (j : ℕ) → 2 ^ k ≤ j → (word_refusal (plain k) s j).applies ≡ false
-last_passes k s j h = rw (le-ltb j (2 ^ k) h)
+-- a node that has no word never gives 6
+pub last_passes : (F : Format) (s : List ℕ) (j : ℕ) → word_count F ≤ j → (word_refusal (table_of F) s j).applies ≡ false
+last_passes F s j h = rw (le-ltb j (word_count F) h)
 
 -- the two last refusals of reading a node, by where j lies and what its word is
-module _ (k : ℕ) (s : List ℕ) (j v : ℕ) where
-  pub node_past : 2 ^ k < j → outcome (node_refusal k j ∷ word_refusal (plain k) s j ∷ []) v ≡ record { number = 3; place = 0; value = 0 }
-  node_past h = applied (node_refusal k j) (word_refusal (plain k) s j ∷ []) v (lt-ltb (2 ^ k) j h)
+module _ (F : Format) (s : List ℕ) (j v : ℕ) where
+  pub node_past : 2 ^ precision_of F < j → outcome (node_refusal (precision_of F) j ∷ word_refusal (table_of F) s j ∷ []) v ≡ record { number = 3; place = 0; value = 0 }
+  node_past h = applied (node_refusal (precision_of F) j) (word_refusal (table_of F) s j ∷ []) v (lt-ltb (2 ^ precision_of F) j h)
 
-  pub node_refused : j ≤ 2 ^ k → (word_refusal (plain k) s j).applies ≡ true → outcome (node_refusal k j ∷ word_refusal (plain k) s j ∷ []) v ≡ record { number = 6; place = j; value = 0 }
+  pub node_refused : j ≤ 2 ^ precision_of F → (word_refusal (table_of F) s j).applies ≡ true → outcome (node_refusal (precision_of F) j ∷ word_refusal (table_of F) s j ∷ []) v ≡ record { number = 6; place = j; value = 0 }
   node_refused h e =
-      passed (node_refusal k j) (word_refusal (plain k) s j ∷ []) v (le-ltb (2 ^ k) j h) ∙ applied (word_refusal (plain k) s j) [] v e
+      passed (node_refusal (precision_of F) j) (word_refusal (table_of F) s j ∷ []) v (le-ltb (2 ^ precision_of F) j h) ∙ applied (word_refusal (table_of F) s j) [] v e
 
-  pub node_served : j ≤ 2 ^ k → (word_refusal (plain k) s j).applies ≡ false → outcome (node_refusal k j ∷ word_refusal (plain k) s j ∷ []) v ≡ served v
+  pub node_served : j ≤ 2 ^ precision_of F → (word_refusal (table_of F) s j).applies ≡ false → outcome (node_refusal (precision_of F) j ∷ word_refusal (table_of F) s j ∷ []) v ≡ served v
   node_served h e =
-      passed (node_refusal k j) (word_refusal (plain k) s j ∷ []) v (le-ltb (2 ^ k) j h) ∙ passed (word_refusal (plain k) s j) [] v e
+      passed (node_refusal (precision_of F) j) (word_refusal (table_of F) s j ∷ []) v (le-ltb (2 ^ precision_of F) j h) ∙ passed (word_refusal (table_of F) s j) [] v e

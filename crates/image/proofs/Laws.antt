@@ -1,20 +1,36 @@
--- The table of a precision: its words have their width, and fill whole bytes.
+-- The tables of the formats: their words have their width, and plain ones fill whole bytes. The words that the code makes and judges are the table's.
 -- Assumes nothing.
-use mathlib.Core.Path.{◌≡◌, refl}
+use mathlib.Core.Path.{◌≡◌, refl, ap, fun_ext}
 use Prim.Native.Nat.{ℕ, zero, suc, ◌+◌, ◌*◌, ◌/◌, ◌^◌, ◌≤◌}
-use native.Mathlib.Nat.{not-suc-le-zero, pow-suc, mod-lt}
+use native.Mathlib.Nat.{not-suc-le-zero, pow-suc}
 use native.Mathlib.Omega.{arith}
-use lib.Pow.{pow_pos}
-use Rattle.precision.specs.Precision.{word_width, image_length}
-use Rattle.nodes.specs.Nodes.{node}
+use Rattle.precision.specs.Precision as precisions
+use Rattle.format.specs.Format.{precision_of, plain_of, word_count, word_width}
+use Rattle.format.specs.declared.Format.{Format}
+use Rattle.format.proofs.Laws.{width_least}
+use Rattle.nodes.specs.Inner.{quotients_of}
+use Rattle.nodes.proofs.Forms.{stored_lt, stored_low}
+use Rattle.layout.specs.Layout.{Layout}
 use Rattle.layout.proofs.Laws.{Fits, Whole}
-use Rattle.image.specs.Image.{plain}
+use Rattle.image.specs.Image.{table_of}
+use Rattle.image.specs.Inner.{layout_of}
 
 -- a stored word has the width of a word
-pub plain_fits : (k : ℕ) → Fits (plain k)
-plain_fits k = record { one = omega arith; words = λ j h. mod-lt (node k j) (pow_pos (word_width k)) }
+pub table_fits : (F : Format) → Fits (table_of F)
+table_fits F =
+    record {
+      one = omega (arith, width_least F.form (precision_of F));
+      words = λ j h. stored_lt F.form (precision_of F) j;
+    }
 
--- an eighth of its bits is a whole number, for k from 1
+-- the lowest bits of the quotients are the words
+pub own_layout : (F : Format) → layout_of (quotients_of F) ≡ table_of F
+own_layout F = ap with_words (fun_ext (stored_low F.form (precision_of F)))
+  where
+    with_words : (ℕ → ℕ) → Layout
+    with_words f = record { count = word_count F; width = word_width F; word = f }
+
+-- an eighth of the bits of plain words is a whole number, for k from 1
 pub eighths : (k : ℕ) → 1 ≤ k → 8 * (2 ^ k * (2 * k + 2) / 8) ≡ 2 ^ k * (2 * k + 2)
 eighths zero h = absurd (not-suc-le-zero h)
 eighths (suc zero) h = refl
@@ -24,11 +40,11 @@ eighths (suc (suc q)) h =
     let e : n * (2 * suc (suc q) + 2) ≡ 8 * (2 ^ q * (q + 3)) = rw eight (omega arith) in
     omega (arith, e)
 
--- so the words take whole bytes
+-- so they take whole bytes
 module _ (k : ℕ) (one : 1 ≤ k) where
-  pub whole_bytes : Whole (plain k)
+  pub whole_bytes : Whole (table_of (plain_of k))
   whole_bytes = omega (arith, eighths k one)
 
   -- as many as document 01 says
-  pub eighth_of_bits : image_length k ≡ 2 ^ k * (2 * k + 2) / 8
+  pub eighth_of_bits : precisions.image_length k ≡ 2 ^ k * (2 * k + 2) / 8
   eighth_of_bits = omega (arith, eighths k one)

@@ -1,22 +1,24 @@
--- The image of a precision, and what a buffer holds of it (document 01, "The image").
+-- The image of a table, and what a buffer holds of it (document 01, "The image"; document 02, Q-7).
 -- Assumes nothing.
 use Rattle.std.specs.Prelude.{ℕ, List}
-use Rattle.precision.specs.Precision.{word_width, word_count}
+use Rattle.format.specs.Format.{precision_of, word_width, word_count}
+use Rattle.format.specs.declared.Format.{Format}
 use Rattle.layout.specs.Layout.{Layout, image_of, word_in}
-use Rattle.nodes.specs.Nodes.{stored_word, decode}
+use Rattle.nodes.specs.Nodes.{stored_in, decode_in}
 
--- the table of k: 2^k words of 2k + 2 bits, that of node j being c(j) modulo 2^(2k+2)
-abbrev pub plain : ℕ → Layout
-plain k = record { count = word_count k; width = word_width k; word = stored_word k }
+-- the table of a format. Plain: 2^k words of 2k + 2 bits, that of node j being c(j) modulo 2^(2k+2). Full: 2^k + 1 words of 2k + 4 bits, that of
+-- node j being c(j)
+abbrev pub table_of : Format → Layout
+table_of F = record { count = word_count F; width = word_width F; word = stored_in F.form (precision_of F) }
 
 -- its image
-abbrev pub image : ℕ → List ℕ
-image k = image_of (plain k)
+abbrev pub image : Format → List ℕ
+image F = image_of (table_of F)
 
 -- the word that a buffer holds for node j
-abbrev pub word_of : ℕ → List ℕ → ℕ → ℕ
-word_of k s j = word_in (plain k) s j
+abbrev pub word_of : Format → List ℕ → ℕ → ℕ
+word_of F s j = word_in (table_of F) s j
 
--- what that word stands for; node 2^k has none, and its value is implied
-abbrev pub node_of : ℕ → List ℕ → ℕ → ℕ
-node_of k s j = decode k j (word_of k s j)
+-- what that word stands for; node 2^k has none in plain words, and its value is implied
+abbrev pub node_of : Format → List ℕ → ℕ → ℕ
+node_of F s j = decode_in F.form (precision_of F) j (word_of F s j)

@@ -1,7 +1,8 @@
 -- What only inner promises cite: the image's own bytes, and a table whose words are quotients.
 -- Assumes nothing.
 use Rattle.std.specs.Prelude.{ℕ, ◌+◌, ◌%◌, ◌^◌, cond, List, [], length, take}
-use Rattle.precision.specs.Precision.{image_length}
+use Rattle.format.specs.Format.{image_length}
+use Rattle.format.specs.declared.Format.{Format}
 use Rattle.answers.specs.Refusal.{some_applies}
 use Rattle.layout.specs.Layout.{Layout}
 use Rattle.quotient.specs.Quotient.{rounded_up}
@@ -9,8 +10,8 @@ use Rattle.nodes.specs.declared.Quotients.{Quotients}
 use Rattle.image.specs.Refusals.{limits}
 
 -- the image's own bytes, the front of the buffer; none where 1 or 2 applies
-abbrev pub own_bytes : ℕ → List ℕ → List ℕ
-own_bytes k s = cond (some_applies (limits k (length s))) [] (take (image_length k) s)
+abbrev pub own_bytes : Format → List ℕ → List ℕ
+own_bytes F s = cond (some_applies (limits F (length s))) [] (take (image_length F) s)
 
 -- the quotient of word j, rounded up
 abbrev pub quotients : Quotients → ℕ → ℕ

@@ -2,9 +2,11 @@
 -- Assumes nothing.
 use Rattle.std.specs.Prelude.{ℕ, not, List, [], ◌∷◌, ltb}
 use Rattle.precision.specs.Precision.{in_range, last_node}
+use Rattle.format.specs.Format.{precision_of}
+use Rattle.format.specs.declared.Format.{Format}
 use Rattle.answers.specs.Refusal.{Refusal}
 use Rattle.layout.specs.Refusals.{length_refusal}
-use Rattle.image.specs.Image.{plain}
+use Rattle.image.specs.Image.{table_of}
 
 -- 1: the precision is below 1 or above 12
 abbrev pub precision_refusal : ℕ → Refusal
@@ -15,5 +17,5 @@ abbrev pub node_refusal : ℕ → ℕ → Refusal
 node_refusal k j = record { applies = ltb (last_node k) j; number = 3; place = 0 }
 
 -- 1 and 2, which every call on an image tests first, for a buffer of n bytes
-abbrev pub limits : ℕ → ℕ → List Refusal
-limits k n = precision_refusal k ∷ length_refusal (plain k) n ∷ []
+abbrev pub limits : Format → ℕ → List Refusal
+limits F n = precision_refusal (precision_of F) ∷ length_refusal (table_of F) n ∷ []

@@ -3,94 +3,130 @@
 use mathlib.Core.Path.{◌≡◌, refl, sym, ap, ◌∙◌}
 use mathlib.Core.Bool.{Bool, true, false, not}
 use mathlib.Core.List.{List}
-use Prim.Native.Nat.{ℕ, ◌+◌, ◌*◌, ◌/◌, ◌%◌, ◌^◌, ◌<◌}
+use Prim.Native.Nat.{ℕ, ◌+◌, ◌*◌, ◌/◌, ◌%◌, ◌^◌, ◌≤◌, ◌<◌}
 use native.Mathlib.Omega.{arith}
-use lib.Dec.{eqb}
-use borrow.Author.Tests.{eqb-true, eqb-false, eq-eqb, ne_eqb}
-use Rattle.precision.specs.Precision.{word_width}
+use lib.Dec.{ltb}
+use borrow.Author.Tests.{ltb-true, ltb-false, eq-eqb, ne_eqb}
+use Rattle.format.specs.Format.{precision_of, word_width, word_count, plain_of, full_of, asked}
+use Rattle.format.specs.declared.Form.{Form}
+use Rattle.format.specs.declared.Form.TheVariants.{Plain, Full}
+use Rattle.format.specs.declared.Format.{Format}
+use Rattle.format.proofs.Laws.{width_least, count_least}
 use Rattle.quotient.specs.Inner.{rounds_up}
 use Rattle.nodes.specs.Nodes.{numerator, leading_one, decode_under}
+use Rattle.nodes.specs.Inner.{lead_in}
 use Rattle.nodes.proofs.Nodes.{last_judged}
 use Rattle.packing.specs.Packing.{Bytes, field_at}
 use Rattle.packing.proofs.Words.{words_high, words_low, word_past}
 use Rattle.layout.specs.Refusals.{word_refusal}
-use Rattle.image.specs.Image.{plain, word_of, node_of}
+use Rattle.image.specs.Image.{table_of, word_of, node_of}
 use Rattle.image.specs.Inner.{own_bytes}
 use Rattle.image.proofs.Laws.{whole_bytes}
 use Rattle.image.proofs.Limits.{ImageKept}
 use Rattle.image.proofs.OwnBytes.{own_length, own_word}
 use Rattle.image.proofs.Judging.{word_tells, refusal_tells, word_value, last_passes}
 
-module _ (k : ℕ) (s : List ℕ) (j : ℕ) (kept : ImageKept k s) (below : j < 2 ^ k) (bytes : Bytes (own_bytes k s)) where
-  -- both words, as they are read
-  abbrev pub both_words : ℕ
-  both_words = field_at (own_bytes k s) (j * word_width k) (2 * word_width k)
+-- both words, as they are read
+abbrev pub both_words : Format → List ℕ → ℕ → ℕ
+both_words F s j = field_at (own_bytes F s) (j * word_width F) (2 * word_width F)
 
-  -- what each stands for
-  abbrev pub lower_end : ℕ
-  lower_end = decode_under (leading_one k) j (both_words / 2 ^ word_width k)
+-- what each stands for
+abbrev pub lower_end : Format → List ℕ → ℕ → ℕ
+lower_end F s j = decode_under (lead_in F.form (precision_of F)) j (both_words F s j / 2 ^ word_width F)
 
-  abbrev pub upper_end : ℕ
-  upper_end = decode_under (leading_one k) (j + 1) (both_words % 2 ^ word_width k)
+abbrev pub upper_end : Format → List ℕ → ℕ → ℕ
+upper_end F s j = decode_under (lead_in F.form (precision_of F)) (j + 1) (both_words F s j % 2 ^ word_width F)
 
-  lower_word : both_words / 2 ^ word_width k ≡ word_of k s j
-  lower_word = words_high (word_width k) (own_bytes k s) j bytes (omega arith) ∙ own_word k s kept j below
+-- c is the quotient of node j rounded up, by a product
+abbrev pub passes : ℕ → ℕ → ℕ → Bool
+passes k j c = rounds_up (numerator k) (2 ^ k + j) c
 
-  pub lower_value : lower_end ≡ node_of k s j
-  lower_value = ap (decode_under (leading_one k) j) lower_word ∙ word_value k s j below
+module _ (F : Format) (s : List ℕ) (j : ℕ) (kept : ImageKept F s) (bytes : Bytes (own_bytes F s)) where
+  one : 1 ≤ word_width F
+  one = omega (arith, width_least F.form (precision_of F))
 
-  pub lower_tells : (word_refusal (plain k) s j).applies ≡ not (rounds_up (numerator k) (2 ^ k + j) lower_end)
-  lower_tells =
-      refusal_tells k s j below
-      ∙ word_tells k s j below (ap (λ (x : ℕ). rounds_up (numerator k) (2 ^ k + j) (decode_under (leading_one k) j x)) lower_word)
+  -- the word of node j, which has one
+  module _ (there : j < word_count F) where
+    lower_word : both_words F s j / 2 ^ word_width F ≡ word_of F s j
+    lower_word = words_high (word_width F) (own_bytes F s) j bytes one ∙ own_word F s kept j there
 
-  upper_word : both_words % 2 ^ word_width k ≡ word_of k (own_bytes k s) (j + 1)
-  upper_word = words_low (word_width k) (own_bytes k s) j bytes (omega arith)
+    value_there : lower_end F s j ≡ node_of F s j
+    value_there = ap (decode_under (lead_in F.form (precision_of F)) j) lower_word ∙ word_value F s j there
+
+    tells_there : (word_refusal (table_of F) s j).applies ≡ not (passes (precision_of F) j (lower_end F s j))
+    tells_there =
+        refusal_tells F s j there
+        ∙ word_tells F s j there (ap (λ (x : ℕ). passes (precision_of F) j (decode_under (lead_in F.form (precision_of F)) j x)) lower_word)
 
   -- the word of node j + 1, where it has one
-  module _ (more : j + 1 < 2 ^ k) where
-    next_word : both_words % 2 ^ word_width k ≡ word_of k s (j + 1)
-    next_word = upper_word ∙ own_word k s kept (j + 1) more
+  upper_word : both_words F s j % 2 ^ word_width F ≡ word_of F (own_bytes F s) (j + 1)
+  upper_word = words_low (word_width F) (own_bytes F s) j bytes one
 
-    next_value : upper_end ≡ node_of k s (j + 1)
-    next_value = ap (decode_under (leading_one k) (j + 1)) next_word ∙ word_value k s (j + 1) more
+  module _ (there : j + 1 < word_count F) where
+    next_word : both_words F s j % 2 ^ word_width F ≡ word_of F s (j + 1)
+    next_word = upper_word ∙ own_word F s kept (j + 1) there
 
-    next_tells : (word_refusal (plain k) s (j + 1)).applies ≡ not (rounds_up (numerator k) (2 ^ k + (j + 1)) upper_end)
+    next_value : upper_end F s j ≡ node_of F s (j + 1)
+    next_value = ap (decode_under (lead_in F.form (precision_of F)) (j + 1)) next_word ∙ word_value F s (j + 1) there
+
+    next_tells : (word_refusal (table_of F) s (j + 1)).applies ≡ not (passes (precision_of F) (j + 1) (upper_end F s j))
     next_tells =
-        refusal_tells k s (j + 1) more
-        ∙ word_tells k s (j + 1) more (ap (λ (x : ℕ). rounds_up (numerator k) (2 ^ k + (j + 1)) (decode_under (leading_one k) (j + 1) x)) next_word)
+        refusal_tells F s (j + 1) there
+        ∙ word_tells F s (j + 1) there (ap (λ (x : ℕ). passes (precision_of F) (j + 1) (decode_under (lead_in F.form (precision_of F)) (j + 1) x)) next_word)
 
-  -- behind the last word there are no bytes, which are read as zero bits, and those pass for the last node
-  module _ (last : j + 1 ≡ 2 ^ k) where
-    no_word : both_words % 2 ^ word_width k ≡ 0
-    no_word =
-        upper_word
-        ∙ ap (word_of k (own_bytes k s)) last
-        ∙ word_past (word_width k) (own_bytes k s) (2 ^ k) (omega (arith, own_length k s kept, whole_bytes k kept.low))
+-- behind the last plain word there are no bytes, which are read as zero bits, and those pass for the last node
+module _ (k : ℕ) (s : List ℕ) (j : ℕ) (kept : ImageKept (plain_of k) s) (bytes : Bytes (own_bytes (plain_of k) s)) (last : j + 1 ≡ 2 ^ k) where
+  no_word : both_words (plain_of k) s j % 2 ^ word_width (plain_of k) ≡ 0
+  no_word =
+      upper_word (plain_of k) s j kept bytes
+      ∙ ap (word_of (plain_of k) (own_bytes (plain_of k) s)) last
+      ∙ word_past (word_width (plain_of k)) (own_bytes (plain_of k) s) (2 ^ k) (omega (arith, own_length (plain_of k) s kept, whole_bytes k kept.low))
 
-    implied : upper_end ≡ leading_one k
-    implied = ap (decode_under (leading_one k) (j + 1)) no_word ∙ rw (ne_eqb (j + 1) 0 (λ e. omega (arith, e))) (omega arith)
+  last_value : upper_end (plain_of k) s j ≡ node_of (plain_of k) s (j + 1)
+  last_value =
+      ap (decode_under (leading_one k) (j + 1)) no_word
+      ∙ rw (ne_eqb (j + 1) 0 (λ e. omega (arith, e)), eq-eqb (j + 1) (2 ^ k) last) (omega arith)
 
-    last_value : upper_end ≡ node_of k s (j + 1)
-    last_value = implied ∙ sym (rw (eq-eqb (j + 1) (2 ^ k) last))
+  last_tells : (word_refusal (table_of (plain_of k)) s (j + 1)).applies ≡ not (passes k (j + 1) (upper_end (plain_of k) s j))
+  last_tells =
+      last_passes (plain_of k) s (j + 1) (omega (arith, last))
+      ∙ ap not (sym (ap (λ (x : ℕ). passes k (j + 1) (decode_under (leading_one k) (j + 1) x)) no_word
+      ∙ ap (λ (i : ℕ). passes k i (decode_under (leading_one k) i 0)) last
+      ∙ last_judged k))
 
-    last_tells : (word_refusal (plain k) s (j + 1)).applies ≡ not (rounds_up (numerator k) (2 ^ k + (j + 1)) upper_end)
-    last_tells =
-        last_passes k s (j + 1) (omega (arith, last))
-        ∙ ap not (sym (ap (λ (x : ℕ). rounds_up (numerator k) (2 ^ k + (j + 1)) (decode_under (leading_one k) (j + 1) x)) no_word
-        ∙ ap (λ (i : ℕ). rounds_up (numerator k) (2 ^ k + i) (decode_under (leading_one k) i 0)) last
-        ∙ last_judged k))
+-- so both ends of a piece that begins at node j are what the buffer gives for nodes j and j + 1, and the test tells of their words
+module _ (F : Format) (s : List ℕ) (j : ℕ) (kept : ImageKept F s) (below : j < 2 ^ precision_of F) (bytes : Bytes (own_bytes F s)) where
+  there : j < word_count F
+  there = omega (arith, below, count_least F.form (precision_of F))
 
-  pub upper_value : upper_end ≡ node_of k s (j + 1)
-  upper_value = by (eqb (j + 1) (2 ^ k)) refl
+  pub lower_value : lower_end F s j ≡ node_of F s j
+  lower_value = value_there F s j kept bytes there
+
+  pub lower_tells : (word_refusal (table_of F) s j).applies ≡ not (passes (precision_of F) j (lower_end F s j))
+  lower_tells = tells_there F s j kept bytes there
+
+-- the upper end, by the form: in full words node j + 1 has a word in any case
+module _ (k : ℕ) (s : List ℕ) (j : ℕ) (below : j < 2 ^ k) where
+  value_in : (f : Form) → ImageKept (asked f k) s → Bytes (own_bytes (asked f k) s) → upper_end (asked f k) s j ≡ node_of (asked f k) s (j + 1)
+  value_in Plain kept bytes = by (ltb (j + 1) (2 ^ k)) refl
     where
-      by : (b : Bool) → eqb (j + 1) (2 ^ k) ≡ b → upper_end ≡ node_of k s (j + 1)
-      by true e = last_value (eqb-true (j + 1) (2 ^ k) e)
-      by false e = next_value (omega (arith, eqb-false (j + 1) (2 ^ k) e))
+      by : (b : Bool) → ltb (j + 1) (2 ^ k) ≡ b → upper_end (plain_of k) s j ≡ node_of (plain_of k) s (j + 1)
+      by true e = next_value (plain_of k) s j kept bytes (ltb-true (j + 1) (2 ^ k) e)
+      by false e = last_value k s j kept bytes (omega (arith, below, ltb-false (j + 1) (2 ^ k) e))
+  value_in Full kept bytes = next_value (full_of k) s j kept bytes (omega (arith, below))
 
-  pub upper_tells : (word_refusal (plain k) s (j + 1)).applies ≡ not (rounds_up (numerator k) (2 ^ k + (j + 1)) upper_end)
-  upper_tells = by (eqb (j + 1) (2 ^ k)) refl
+  tells_in : (f : Form) → ImageKept (asked f k) s → Bytes (own_bytes (asked f k) s)
+      → (word_refusal (table_of (asked f k)) s (j + 1)).applies ≡ not (passes k (j + 1) (upper_end (asked f k) s j))
+  tells_in Plain kept bytes = by (ltb (j + 1) (2 ^ k)) refl
     where
-      by : (b : Bool) → eqb (j + 1) (2 ^ k) ≡ b → (word_refusal (plain k) s (j + 1)).applies ≡ not (rounds_up (numerator k) (2 ^ k + (j + 1)) upper_end)
-      by true e = last_tells (eqb-true (j + 1) (2 ^ k) e)
-      by false e = next_tells (omega (arith, eqb-false (j + 1) (2 ^ k) e))
+      by : (b : Bool) → ltb (j + 1) (2 ^ k) ≡ b → (word_refusal (table_of (plain_of k)) s (j + 1)).applies ≡ not (passes k (j + 1) (upper_end (plain_of k) s j))
+      by true e = next_tells (plain_of k) s j kept bytes (ltb-true (j + 1) (2 ^ k) e)
+      by false e = last_tells k s j kept bytes (omega (arith, below, ltb-false (j + 1) (2 ^ k) e))
+  tells_in Full kept bytes = next_tells (full_of k) s j kept bytes (omega (arith, below))
+
+module _ (F : Format) (s : List ℕ) (j : ℕ) (kept : ImageKept F s) (below : j < 2 ^ precision_of F) (bytes : Bytes (own_bytes F s)) where
+  pub upper_value : upper_end F s j ≡ node_of F s (j + 1)
+  upper_value = value_in (precision_of F) s j below F.form kept bytes
+
+  pub upper_tells : (word_refusal (table_of F) s (j + 1)).applies ≡ not (passes (precision_of F) (j + 1) (upper_end F s j))
+  upper_tells = tells_in (precision_of F) s j below F.form kept bytes

@@ -1,6 +1,7 @@
 -- What only inner promises cite: an operand that is cut already, by its fraction bits, and the answer to it.
 -- Assumes nothing.
 use Rattle.std.specs.Prelude.{ℕ, ◌+◌, ◌*◌, ◌^◌, List}
+use Rattle.format.specs.declared.Format.{Format}
 use Rattle.answers.specs.Refusal.{Outcome, outcome}
 use Rattle.interpolation.specs.Reciprocal.{read_reciprocal}
 use Rattle.interpolation.specs.Calls.{cut_refusals}
@@ -9,6 +10,6 @@ use Rattle.interpolation.specs.Calls.{cut_refusals}
 abbrev pub cut_of : ℕ → ℕ → ℕ
 cut_of k bits = 2 ^ (2 * k + 3) + bits
 
--- what a cut operand t is answered with, where k and the buffer keep their limits
-abbrev pub cut_outcome : ℕ → List ℕ → ℕ → Outcome
-cut_outcome k s t = outcome (cut_refusals k s t) (read_reciprocal k s t)
+-- what a cut operand t is answered with, where format and buffer keep their limits
+abbrev pub cut_outcome : Format → List ℕ → ℕ → Outcome
+cut_outcome F s t = outcome (cut_refusals F s t) (read_reciprocal F s t)

@@ -2,18 +2,20 @@
 -- both, side by side in one number, give for it.
 -- Assumes nothing.
 use Rattle.std.specs.Prelude.{ℕ, ◌+◌, ◌-◌, ◌*◌, ◌/◌, ◌%◌, ◌^◌, ◌≤◌, ◌<◌, Bool, cond, not, List, length}
-use Rattle.precision.specs.Precision.{word_width, image_length}
+use Rattle.format.specs.Format.{precision_of, word_width, image_length}
+use Rattle.format.specs.declared.Format.{Format}
 use Rattle.quotient.specs.Inner.{rounds_up}
-use Rattle.nodes.specs.Nodes.{numerator, leading_one, decode_under}
+use Rattle.nodes.specs.Nodes.{numerator, decode_under}
+use Rattle.nodes.specs.Inner.{lead_in}
 use Rattle.answers.specs.Refusal.{Outcome, served}
 use Rattle.interpolation.specs.Algorithm.{product_sum, chopped}
 
--- k and the buffer keep their limits, and bits is a number of 2k + 3 bits
-pub record IsCut (k : ℕ) (s : List ℕ) (bits : ℕ) : Type 0 where
-  pub low : 1 ≤ k
-  pub high : k ≤ 12
-  pub long : image_length k ≤ length s
-  pub below : bits < 2 ^ (2 * k + 3)
+-- format and buffer keep their limits, and bits is a number of 2k + 3 bits
+pub record IsCut (F : Format) (s : List ℕ) (bits : ℕ) : Type 0 where
+  pub low : 1 ≤ precision_of F
+  pub high : precision_of F ≤ 12
+  pub long : image_length F ≤ length s
+  pub below : bits < 2 ^ (2 * precision_of F + 3)
 
 -- k is a precision, and a piece begins at node j
 pub record IsPieceOf (k j : ℕ) : Type 0 where
@@ -29,16 +31,16 @@ pub record IsPiece (c c' f w : ℕ) : Type 0 where
   pub inside : f ≤ 2 ^ w
 
 -- two words, side by side at the top of 64 bits
-abbrev pub both_in : ℕ → ℕ → ℕ
-both_in k window = window / 2 ^ (64 - 2 * word_width k)
+abbrev pub both_in : Format → ℕ → ℕ
+both_in F window = window / 2 ^ (64 - 2 * word_width F)
 
 -- what the first word, in the high bits, stands for: node j, at the lower end of a piece
-abbrev pub lower_end : ℕ → ℕ → ℕ → ℕ
-lower_end k both j = decode_under (leading_one k) j (both / 2 ^ word_width k)
+abbrev pub lower_end : Format → ℕ → ℕ → ℕ
+lower_end F both j = decode_under (lead_in F.form (precision_of F)) j (both / 2 ^ word_width F)
 
 -- what the second word, in the low bits, stands for: node j + 1, at its upper end
-abbrev pub upper_end : ℕ → ℕ → ℕ → ℕ
-upper_end k both j = decode_under (leading_one k) (j + 1) (both % 2 ^ word_width k)
+abbrev pub upper_end : Format → ℕ → ℕ → ℕ
+upper_end F both j = decode_under (lead_in F.form (precision_of F)) (j + 1) (both % 2 ^ word_width F)
 
 -- c is the quotient of node j rounded up, by a product
 abbrev pub passes : ℕ → ℕ → ℕ → Bool
@@ -49,8 +51,9 @@ abbrev pub wrong_at : ℕ → Outcome
 wrong_at j = record { number = 6; place = j; value = 0 }
 
 -- the word of node j is judged first; where both pass R is interpolated between what they stand for
-abbrev pub ends_outcome : ℕ → ℕ → ℕ → ℕ → Outcome
-ends_outcome k both j f =
-    cond (not (passes k j (lower_end k both j))) (wrong_at j)
-    (cond (not (passes k (j + 1) (upper_end k both j))) (wrong_at (j + 1))
-    (served (chopped k (product_sum k (lower_end k both j) (upper_end k both j) f))))
+abbrev pub ends_outcome : Format → ℕ → ℕ → ℕ → Outcome
+ends_outcome F both j f =
+    let k = precision_of F in
+    cond (not (passes k j (lower_end F both j))) (wrong_at j)
+    (cond (not (passes k (j + 1) (upper_end F both j))) (wrong_at (j + 1))
+    (served (chopped k (product_sum k (lower_end F both j) (upper_end F both j) f))))

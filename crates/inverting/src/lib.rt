@@ -2,7 +2,7 @@
 #![tactic(auto)]
 
 ghost use Rattle.std.specs.Prelude.{◌≡◌, ◌+◌, ◌/◌, ◌%◌, ◌^◌};
-ghost use Rattle.answers.specs.Answer.{outcome_of_ulps};
+ghost use Rattle.answers.specs.Answer.{outcome_of_reciprocal};
 ghost use Rattle.interpolation.specs.Algorithm.{sum_over};
 ghost use Rattle.interpolation.specs.Calls.{reciprocal_outcome};
 ghost use Rattle.interpolation.specs.Inner.{cut_of, cut_outcome};
@@ -32,7 +32,7 @@ fn interpolated(
 // the lower end first. Of the kept fraction bits the last k + 3 are looked at, which are f.
 fn by_ends(k: Precision, j: u32, window: u64, kept: u64) -> Result<Ulps, Refused>
     requires { IsPieceOf k.0 j }
-    ensures { outcome_of_ulps result ≡ ends_outcome k.0 (both_in k.0 window) j (kept % 2 ^ (k.0 + 3)) }
+    ensures { outcome_of_reciprocal result ≡ ends_outcome k.0 (both_in k.0 window) j (kept % 2 ^ (k.0 + 3)) }
 {
     let table = nodes::table(k).ok_or(Refused::Precision)?;
     let both = bits::high(window, 64 - 2 * table.width);
@@ -56,7 +56,7 @@ fn by_ends(k: Precision, j: u32, window: u64, kept: u64) -> Result<Ulps, Refused
 // takes what this takes.
 fn by_precision(k: Precision, j: u32, window: u64, kept: u64) -> Result<Ulps, Refused>
     requires { IsPieceOf k.0 j }
-    ensures { outcome_of_ulps result ≡ ends_outcome k.0 (both_in k.0 window) j (kept % 2 ^ (k.0 + 3)) }
+    ensures { outcome_of_reciprocal result ≡ ends_outcome k.0 (both_in k.0 window) j (kept % 2 ^ (k.0 + 3)) }
 {
     match k.0 {
         1 => by_ends(Precision(1), j, window, kept),
@@ -79,7 +79,7 @@ fn by_precision(k: Precision, j: u32, window: u64, kept: u64) -> Result<Ulps, Re
 // The words at both ends of its piece are had in one reading; behind the last word zero bits are read, which are judged to be the last node.
 fn of_cut(k: Precision, image: &[u8], kept: u64) -> Result<Ulps, Refused>
     requires { IsCut k.0 image.now kept }
-    ensures { outcome_of_ulps result ≡ cut_outcome k.0 image.now (cut_of k.0 kept) }
+    ensures { outcome_of_reciprocal result ≡ cut_outcome k.0 image.now (cut_of k.0 kept) }
 {
     let width = k.word_width();
     let j = bits::high(kept, k.0 + 3) as u32;
@@ -89,7 +89,7 @@ fn of_cut(k: Precision, image: &[u8], kept: u64) -> Result<Ulps, Refused>
 
 // The reciprocal of an operand: its first 2k + 3 fraction bits decide, zeros where it has fewer.
 pub fn reciprocal(k: Precision, image: &[u8], operand: Operand) -> Result<Ulps, Refused>
-    ensures { outcome_of_ulps result ≡ reciprocal_outcome k.0 image.now operand.n operand.x }
+    ensures { outcome_of_reciprocal result ≡ reciprocal_outcome k.0 image.now operand.n operand.x }
 {
     image::table(k, image.len())?;
     operand.limits()?;

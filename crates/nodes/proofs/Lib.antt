@@ -1,3 +1,4 @@
 pub mod Laws
 pub mod Powers
 pub mod Nodes
+pub mod Forms

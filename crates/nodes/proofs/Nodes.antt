@@ -1,35 +1,23 @@
 -- The laws of the nodes, of their words and of decoding, at every k.
 -- Assumes nothing.
 use mathlib.Core.Path.{◌≡◌, refl, sym, ap, ◌∙◌}
-use mathlib.Core.Bool.{Bool, true, false, cond, not, and-false}
+use mathlib.Core.Bool.{true, false, and-false}
 use Prim.Native.Nat.{ℕ, ◌+◌, ◌-◌, ◌*◌, ◌%◌, ◌^◌, ◌≤◌, ◌<◌}
 use native.Mathlib.Nat.{mod-eq_of_lt}
 use native.Mathlib.Omega.{arith}
 use lib.Dec.{eqb}
-use lib.Pow.{pow_pos, pow-lt, pow_mono}
+use lib.Pow.{pow_pos, pow-lt}
 use borrow.Author.Tests.{eq-eqb, ne_eqb, eqb-true, le-leb, lt-leb}
-use Rattle.std.proofs.Common.{Option, Some, None}
-use Rattle.std.specs.Option.{is_none}
-use Rattle.units.specs.declared.TableUnits.{TableUnits}
+use Rattle.std.proofs.Common.{Some}
 use Rattle.precision.specs.Precision.{word_width, in_range}
 use Rattle.quotient.specs.Quotient.{rounded_up}
 use Rattle.quotient.specs.Inner.{numerator_bits, rounds_up}
 use Rattle.quotient.proofs.Laws.{antitone, rounds-up}
 use Rattle.nodes.specs.Nodes.{numerator, node, leading_one, stored_word, decode_under, decode, node_or_0, node_in_table}
-use Rattle.nodes.specs.Inner.{quotients_of, judged_word}
 use Rattle.nodes.proofs.Laws as laws
 use Rattle.nodes.proofs.Laws.{Shape, node_at}
 use Rattle.nodes.proofs.Powers as powers
 use Rattle.nodes.proofs.Powers.{double, step, step_wide}
-
--- a value where a test passes
-abbrev pub given_where : Bool → ℕ → Option TableUnits
-given_where b c = cond b (Some (record { 0 = c })) None
-
--- and none exactly where it fails
-none_given : (b : Bool) (c : ℕ) → is_none (given_where b c) ≡ not b
-none_given true c = refl
-none_given false c = refl
 
 module _ (k : ℕ) where
   shape : Shape (2 ^ (2 * k + 2)) (2 ^ k)
@@ -118,23 +106,6 @@ module _ (k : ℕ) where
   -- and passes zero bits behind the last word for the last node
   pub last_judged : rounds_up (numerator k) (2 ^ k + 2 ^ k) (decode_under (leading_one k) (2 ^ k) 0) ≡ true
   last_judged = rw (powers.numerator k 2) (laws.judges_last shape)
-
-  -- what code gives for a word of the table of k is what it stands for, where the test passes it: all bits of divisor and value count
-  pub judged_is : k ≤ 12 → (j word : ℕ) → j ≤ 2 ^ k → word < 2 ^ word_width k
-      → judged_word (quotients_of k) j word
-      ≡ given_where (rounds_up (numerator k) (2 ^ k + j) (decode_under (leading_one k) j word)) (decode_under (leading_one k) j word)
-  judged_is h j word in-table l =
-      let wide : 2 * k + 3 ≤ 27 = omega arith in
-      let divisor : 2 ^ k + j < 2 ^ 32 = omega (arith, pow_mono h) in
-      let value : decode_under (leading_one k) j word < 2 ^ 32 = omega (arith, decode_most j word l, pow_mono wide) in
-      rw (numerator_whole h, mod-eq_of_lt divisor, mod-eq_of_lt value) refl
-
-  -- so none is given exactly where the word is wrong
-  pub judged_wrong : k ≤ 12 → (j word : ℕ) → j < 2 ^ k → word < 2 ^ word_width k → is_none (judged_word (quotients_of k) j word) ≡ not (eqb word (stored_word k j))
-  judged_wrong h j word below l =
-      ap is_none (judged_is h j word (omega arith) l)
-      ∙ none_given (rounds_up (numerator k) (2 ^ k + j) (decode_under (leading_one k) j word)) (decode_under (leading_one k) j word)
-      ∙ ap not (word_judged j word below l)
 
   -- what passes at node j is the node
   pub passed_is_node : (j c : ℕ) → rounds_up (numerator k) (2 ^ k + j) c ≡ true → c ≡ node k j

@@ -2,18 +2,29 @@
 -- Assumes nothing.
 use Rattle.std.specs.Prelude.{ℕ, ◌+◌, ◌%◌, ◌^◌, cond, Option, Some, None}
 use Rattle.units.specs.declared.TableUnits.{TableUnits}
-use Rattle.precision.specs.Precision.{word_width, word_count, in_range}
+use Rattle.precision.specs.Precision.{in_range}
+use Rattle.format.specs.Format.{precision_of, word_width, word_count}
+use Rattle.format.specs.declared.Form.{Form}
+use Rattle.format.specs.declared.Form.TheVariants.{Plain, Full}
+use Rattle.format.specs.declared.Format.{Format}
 use Rattle.quotient.specs.Inner.{numerator_bits, rounds_up}
 use Rattle.nodes.specs.Nodes.{numerator, leading_one, decode_under}
 use Rattle.nodes.specs.declared.Quotients.{Quotients}
 
--- those of precision k
-abbrev pub quotients_of : ℕ → Quotients
-quotients_of k = record { count = word_count k; width = word_width k; numerator = numerator k; first = 2 ^ k; lead = leading_one k }
+-- the leading one that words leave out in a form; none, 0, where they hold it
+abbrev pub lead_in : Form → ℕ → ℕ
+lead_in Plain k = leading_one k
+lead_in Full k = 0
 
--- the same, where k is a precision
-abbrev pub quotients_there : ℕ → Option Quotients
-quotients_there k = cond (in_range k) (Some (quotients_of k)) None
+-- those of a format
+abbrev pub quotients_of : Format → Quotients
+quotients_of F =
+    let k = precision_of F in
+    record { count = word_count F; width = word_width F; numerator = numerator k; first = 2 ^ k; lead = lead_in F.form k }
+
+-- the same, where its precision is one
+abbrev pub quotients_there : Format → Option Quotients
+quotients_there F = cond (in_range (precision_of F)) (Some (quotients_of F)) None
 
 -- what the word at node j of a table stands for, where a product tells that it is the quotient rounded up; of the divisor and of the value the lowest
 -- 32 bits count

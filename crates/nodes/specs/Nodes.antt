@@ -1,9 +1,11 @@
 -- The nodes, their words and how a word is decoded (document 01, "Construction of the nodes" and "The image";
--- document 002, Algorithm 1).
+-- document 002, Algorithm 1; document 02, Q-7).
 -- Assumes nothing.
 use Rattle.std.specs.Prelude.{ℕ, ◌+◌, ◌*◌, ◌%◌, ◌^◌, cond, ◌&&◌, Option, Some, None, leb, eqb}
 use Rattle.units.specs.declared.TableUnits.{TableUnits}
 use Rattle.precision.specs.Precision.{word_width, last_node, in_range}
+use Rattle.format.specs.declared.Form.{Form}
+use Rattle.format.specs.declared.Form.TheVariants.{Plain, Full}
 use Rattle.quotient.specs.Quotient.{rounded_up}
 
 -- what is divided to give a node
@@ -14,22 +16,32 @@ numerator k = 2 ^ (3 * k + 3)
 abbrev pub node : ℕ → ℕ → ℕ
 node k j = rounded_up (numerator k) (2 ^ k + j)
 
--- the leading one that a word leaves out: 2^w, with w = 2k + 2
+-- the leading one that a plain word leaves out: 2^w, with w = 2k + 2
 abbrev pub leading_one : ℕ → ℕ
 leading_one k = 2 ^ word_width k
 
--- the word that is stored for node j: c(j) modulo 2^(2k+2)
+-- the plain word that is stored for node j: c(j) modulo 2^(2k+2)
 abbrev pub stored_word : ℕ → ℕ → ℕ
 stored_word k j = node k j % leading_one k
 
--- the value that a word stands for at node j: the leading one is not stored, and the word is added to it; but a zero word at node 0
+-- the value that a plain word stands for at node j: the leading one is not stored, and the word is added to it; but a zero word at node 0
 -- means twice the leading one
 abbrev pub decode_under : ℕ → ℕ → ℕ → ℕ
 decode_under lead j word = cond (eqb j 0 && eqb word 0) (2 * lead) (lead + word)
 
--- the value of node j by its word; the last node has no word, and its value is implied whatever word is given: 2^(2k+2)
+-- the value of node j by its plain word; the last node has none, and its value is implied whatever word is given: 2^(2k+2)
 abbrev pub decode : ℕ → ℕ → ℕ → ℕ
 decode k j word = cond (eqb j (last_node k)) (leading_one k) (decode_under (leading_one k) j word)
+
+-- the word that is stored for node j in a form: the plain one, or c(j) itself
+abbrev pub stored_in : Form → ℕ → ℕ → ℕ
+stored_in Plain k j = stored_word k j
+stored_in Full k j = node k j
+
+-- the value of node j by its word in a form: a full word is the value
+abbrev pub decode_in : Form → ℕ → ℕ → ℕ → ℕ
+decode_in Plain k j word = decode k j word
+decode_in Full k j word = word
 
 -- c(j), where k is a precision and j is from 0 to 2^k
 abbrev pub node_in_table : ℕ → ℕ → Option TableUnits

@@ -8,11 +8,12 @@ ghost use Rattle.nodes.specs.Nodes.{node_in_table, decode_under};
 ghost use Rattle.nodes.specs.Inner.{quotients_there};
 
 pub use eight::{NODES_8, node_8};
+use format::{Form, Format};
 use precision::Precision;
 use units::TableUnits;
 
 // A table of words in the numbers by which code makes and judges them: `count` words of `width` bits, word j being numerator / (first + j)
-// rounded up, modulo 2^width. Decoding puts the leading one `lead` back.
+// rounded up, modulo 2^width. Decoding puts the leading one `lead` back; it is 0 where words keep it.
 #[derive(Clone, Copy, PartialEq, Eq, Debug)]
 pub struct Quotients {
     pub count: u32,
@@ -42,18 +43,28 @@ impl Quotients {
     }
 }
 
-// The numbers of the table of precision k, None where k is no precision.
-pub fn table(k: Precision) -> Option<Quotients>
-    ensures { result ≡ quotients_there k.0 }
+// The numbers of the table of a format, None where its precision is none.
+pub fn table(format: Format) -> Option<Quotients>
+    ensures { result ≡ quotients_there format }
 {
-    let count = k.word_count()?;
-    let width = 2 * k.0 + 2;
-    Some(Quotients {
-        count,
-        width,
-        numerator: bits::power(3 * k.0 + 3),
-        first: count,
-        lead: 1 << width,
+    let k = format.precision.0;
+    let first = format.precision.word_count()?;
+    let numerator = bits::power(3 * k + 3);
+    Some(match format.form {
+        Form::Plain => Quotients {
+            count: first,
+            width: 2 * k + 2,
+            numerator,
+            first,
+            lead: 1 << (2 * k + 2),
+        },
+        Form::Full => Quotients {
+            count: first + 1,
+            width: 2 * k + 4,
+            numerator,
+            first,
+            lead: 0,
+        },
     })
 }
 
@@ -61,11 +72,14 @@ pub fn table(k: Precision) -> Option<Quotients>
 pub fn value(k: Precision, j: u32) -> Option<TableUnits>
     ensures { result ≡ node_in_table k.0 j }
 {
-    let t = table(k)?;
-    if t.count < j {
+    let last = k.word_count()?;
+    if last < j {
         return None;
     }
-    Some(TableUnits(quotient::rounded_up(t.numerator, t.first + j)))
+    Some(TableUnits(quotient::rounded_up(
+        bits::power(3 * k.0 + 3),
+        last + j,
+    )))
 }
 
 // What a word at node j stands for under a leading one; a zero word at node 0 means twice that. Whether the value is the

@@ -3,14 +3,14 @@ use mathlib.Core.Path.{◌≡◌, sym, ap, ◌∙◌}
 use Prim.Native.Nat.{ℕ, ◌+◌, ◌%◌, ◌^◌}
 use Rattle.std.proofs.Common.{Result}
 use Rattle.units.specs.declared.Ulps.{Ulps}
-use Rattle.answers.specs.Answer.{outcome_of_ulps}
+use Rattle.answers.specs.Answer.{outcome_of_reciprocal}
 use Rattle.answers.specs.declared.Refused.{Refused}
 use Rattle.inverting.specs.Inner.{both_in, ends_outcome}
 use Rattle.inverting.proofs.by_precision.Goals as goal
 
 -- in the arm of the number i, what is answered for the number is answered for the precision k
-answer : (k i j window kept : ℕ) (code : Result Ulps Refused) → k ≡ i → outcome_of_ulps code ≡ ends_outcome i (both_in i window) j (kept % 2 ^ (i + 3))
-    → outcome_of_ulps code ≡ ends_outcome k (both_in k window) j (kept % 2 ^ (k + 3))
+answer : (k i j window kept : ℕ) (code : Result Ulps Refused) → k ≡ i → outcome_of_reciprocal code ≡ ends_outcome i (both_in i window) j (kept % 2 ^ (i + 3))
+    → outcome_of_reciprocal code ≡ ends_outcome k (both_in k window) j (kept % 2 ^ (k + 3))
 answer k i j window kept code same e = e ∙ ap (λ (n : ℕ). ends_outcome n (both_in n window) j (kept % 2 ^ (n + 3))) (sym same)
 
 pub returns-in-1 : goal.returns-in-1

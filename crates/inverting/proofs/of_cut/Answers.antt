@@ -11,7 +11,7 @@ use Rattle.precision.specs.Precision.{word_width}
 use Rattle.packing.specs.Packing.{Bytes}
 use Rattle.packing.specs.Inner.{window_at}
 use Rattle.packing.proofs.Fields.{window_field}
-use Rattle.answers.specs.Answer.{outcome_of_ulps}
+use Rattle.answers.specs.Answer.{outcome_of_reciprocal}
 use Rattle.image.specs.Inner.{own_bytes}
 use Rattle.image.proofs.Limits.{ImageKept}
 use Rattle.image.proofs.OwnBytes.{own-bytes}
@@ -56,7 +56,7 @@ module _ (k : ℕ) (s : List ℕ) (bits : ℕ) (p : IsCut k s bits) where
 
       -- and what they give is the answer
       answers : (answer : Result Ulps Refused) {own : List ℕ} {width x : ℕ} → own ≡ own_bytes k s → width ≡ word_width k → x ≡ window_at own (j * width)
-          → outcome_of_ulps answer ≡ ends_outcome k (both_in k x) j (bits % 2 ^ (k + 3)) → outcome_of_ulps answer ≡ cut_outcome k s t
+          → outcome_of_reciprocal answer ≡ ends_outcome k (both_in k x) j (bits % 2 ^ (k + 3)) → outcome_of_reciprocal answer ≡ cut_outcome k s t
       answers answer is-own is_width read e =
           e
           ∙ ap (λ (b : ℕ). ends_outcome k b j (bits % 2 ^ (k + 3))) (reads is-own is_width read)
