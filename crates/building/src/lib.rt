@@ -1,4 +1,4 @@
-// Building the image of a precision in a lent buffer, with zeros to its end.
+// Building the image of a format in a lent buffer, with zeros to its end.
 #![tactic(auto)]
 
 ghost use Rattle.std.specs.Prelude.{◌≡◌, not, ◌+◌, ◌-◌, ◌*◌, T, length};
@@ -12,9 +12,9 @@ ghost use Rattle.image.specs.Inner.{quotients};
 ghost use Rattle.building.specs.Inner.{CanFill, IsDivisor};
 
 use answers::Refused;
+use format::Format;
 use nodes::Quotients;
 use packing::Writer;
-use precision::Precision;
 
 // A guess at dividend / divisor rounded up. Added to 2^32 + 1 - 2^-20 the quotient leaves 20 bits behind the point, and the lowest 32 before the point are the
 // quotient rounded up: in every rounding mode, for a quotient below 2^31 of two whole numbers that doubles hold, the divisor below 2^18. Nothing of this is
@@ -59,12 +59,12 @@ fn fill(image: &mut [u8], table: Quotients) -> Writer
     w
 }
 
-// Writes the image of precision k at the front of the buffer, and zeros behind it to the end; on a refusal every byte stays as found.
-pub fn build(k: Precision, image: &mut [u8]) -> Result<(), Refused>
-    ensures value { outcome_of_done result ≡ build_outcome k.0 image.old }
-    ensures image_after { image.new ≡ build_leaves k.0 image.old }
+// Writes the image of a format at the front of the buffer, and zeros behind it to the end; on a refusal every byte stays as found.
+pub fn build(format: Format, image: &mut [u8]) -> Result<(), Refused>
+    ensures value { outcome_of_done result ≡ build_outcome format image.old }
+    ensures image_after { image.new ≡ build_leaves format image.old }
 {
-    let table = image::table(k, image.len())?;
+    let table = image::table(format, image.len())?;
     let w = fill(image, table);
     let past = w.finish(image);
     tail::clear(image, past as usize);

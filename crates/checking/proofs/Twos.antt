@@ -1,4 +1,4 @@
--- Two words in one reading, and how each is judged.
+-- Two words in one reading, or one, and how each is judged.
 -- Assumes nothing.
 use mathlib.Core.Path.{◌≡◌, ap, ◌∙◌}
 use mathlib.Core.List.{List}
@@ -11,7 +11,7 @@ use Rattle.nodes.specs.declared.Quotients.{Quotients}
 use Rattle.packing.specs.Packing.{Bytes, word_at}
 use Rattle.packing.specs.Inner.{field_read}
 use Rattle.packing.proofs.Words.{word_lt, words_high, words_low}
-use Rattle.packing.proofs.Reading.{field_there}
+use Rattle.packing.proofs.Reading.{field_there, read_there}
 use Rattle.layout.specs.Layout.{is_wrong}
 use Rattle.image.specs.Inner.{layout_of}
 use Rattle.checking.specs.Inner.{AreWords}
@@ -30,6 +30,10 @@ module _ {t : Quotients} (p : AreWords t) (s : List ℕ) where
 
     pub second_of : field_read s (j * t.width) (2 * t.width) % 2 ^ t.width ≡ word_at t.width s (j + 1)
     second_of = ap (λ (x : ℕ). x % 2 ^ t.width) (field_there s (j * t.width) (2 * t.width) p.two) ∙ words_low t.width s j bytes p.one
+
+  -- and one word that is read by itself is that
+  pub one_of : (j : ℕ) → field_read s (j * t.width) t.width ≡ word_at t.width s j
+  one_of j = read_there t.width s j (omega (arith, p.two))
 
   -- whether none is given for word j says whether it is wrong
   pub judged_tells : (j : ℕ) → j < t.count → {word : ℕ} → word ≡ word_at t.width s j → is_none (judged_word t j word) ≡ is_wrong (layout_of t) s j

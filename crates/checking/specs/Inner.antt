@@ -1,6 +1,6 @@
 -- What only inner promises cite: what is asked of the words that are checked, and the lowest of them that is wrong.
 -- Assumes nothing.
-use Rattle.std.specs.Prelude.{◌≡◌, ℕ, ◌*◌, ◌%◌, ◌^◌, ◌≤◌, ◌<◌, not, List, Option, Some, None, if◌then◌else◌, eqb, ltb}
+use Rattle.std.specs.Prelude.{◌≡◌, ℕ, ◌*◌, ◌^◌, ◌≤◌, ◌<◌, not, List, Option, Some, None, if◌then◌else◌, eqb, ltb}
 use Rattle.std.specs.Option.{is_none}
 use Rattle.packing.specs.Inner.{widest}
 use Rattle.layout.specs.Layout.{Layout, first_wrong}
@@ -8,11 +8,10 @@ use Rattle.nodes.specs.Inner.{judged_word}
 use Rattle.nodes.specs.declared.Quotients.{Quotients}
 use Rattle.image.specs.Inner.{layout_of}
 
--- an even number of words, two of which are read at once, and which are judged as the table's words
+-- words of which two are read at once, and which are judged as the table's words
 pub record AreWords (t : Quotients) : Type 0 where
   pub one : 1 ≤ t.width
   pub two : 2 * t.width ≤ widest
-  pub even : t.count % 2 ≡ 0
   pub judges : (j word : ℕ) → j < t.count → word < 2 ^ t.width → is_none (judged_word t j word) ≡ not (eqb word ((layout_of t).word j))
 
 -- the lowest j whose word is wrong, if one is

@@ -8,11 +8,11 @@ ghost use Rattle.image.specs.Inner.{layout_of};
 ghost use Rattle.checking.specs.Inner.{AreWords, wrong_word};
 
 use answers::Refused;
+use format::Format;
 use nodes::Quotients;
-use precision::Precision;
 
-// The lowest word of a table that is wrong in the image, None where none is. Every word up to there is read, two in one reading: there is an even
-// number of them. The bit place runs beside the words: a product in each turn costs the check 13% (tried).
+// The lowest word of a table that is wrong in the image, None where none is. Every word up to there is read, two in one reading, and the last by itself
+// where their number is odd. The bit place runs beside the words: a product in each turn costs the check 13% (tried).
 fn first_wrong(image: &[u8], table: Quotients) -> Option<u32>
     requires { AreWords table }
     ensures { result ≡ wrong_word (layout_of table) image.now }
@@ -30,16 +30,24 @@ fn first_wrong(image: &[u8], table: Quotients) -> Option<u32>
         }
         bit += 2 * (width as u64);
     }
+    if table.count % 2 == 0 {
+        return None;
+    }
+    let last = table.count - 1;
+    let word = packing::field(image, bit, width);
+    if table.judged(last, word as u32).is_none() {
+        return Some(last);
+    }
     None
 }
 
 // Whether every word of the image is the construction's and nothing but zeros stands behind the last one, to the buffer's end. Where a word is wrong,
 // the place is the lowest node of a wrong word; where the words are right and a bit behind them is one, it is the lowest byte with such a bit.
-pub fn check(k: Precision, image: &[u8]) -> Result<(), Refused>
-    ensures { outcome_of_done result ≡ check_outcome k.0 image.now }
+pub fn check(format: Format, image: &[u8]) -> Result<(), Refused>
+    ensures { outcome_of_done result ≡ check_outcome format image.now }
 {
-    let table = image::table(k, image.len())?;
-    if let Some(j) = first_wrong(image::own_bytes(k, image), table) {
+    let table = image::table(format, image.len())?;
+    if let Some(j) = first_wrong(image::own_bytes(format, image), table) {
         return Err(Refused::Word(j));
     }
     let end = (table.count as u64) * (table.width as u64);

@@ -6,30 +6,30 @@ ghost use Rattle.answers.specs.Answer.{outcome_of_node, part};
 ghost use Rattle.image.specs.Calls.{node_outcome, shown_part, shown_from, shown_count};
 
 use answers::{Part, Refused};
-use precision::Precision;
+use format::Format;
 use units::TableUnits;
 
-// The value of node j; its own word alone is read, and none at node 2^k, which is the leading one.
-pub fn node(k: Precision, image: &[u8], j: u32) -> Result<TableUnits, Refused>
-    ensures { outcome_of_node result ≡ node_outcome k.0 image.now j }
+// The value of node j; its own word alone is read. Node 2^k has none in plain words, and is then the leading one.
+pub fn node(format: Format, image: &[u8], j: u32) -> Result<TableUnits, Refused>
+    ensures { outcome_of_node result ≡ node_outcome format image.now j }
 {
-    let table = image::table(k, image.len())?;
-    if table.count < j {
+    let table = image::table(format, image.len())?;
+    if table.first < j {
         return Err(Refused::Node);
     }
     if j == table.count {
         return Ok(TableUnits(table.lead as u64));
     }
-    let word = packing::word(image::own_bytes(k, image), table.width, j);
+    let word = packing::word(image::own_bytes(format, image), table.width, j);
     table.judged(j, word as u32).ok_or(Refused::Word(j))
 }
 
 // Where in the image the bytes stand that hold the word of node j; none, at the front, where there is no such word. The word is not judged. The last byte
 // is counted as `packing::byte_count` does, without `div_ceil`.
-pub fn word_part(k: Precision, image: &[u8], j: u32) -> Part
-    ensures { result ≡ part (shown_from k.0 image.now j) (shown_count k.0 image.now j) }
+pub fn word_part(format: Format, image: &[u8], j: u32) -> Part
+    ensures { result ≡ part (shown_from format image.now j) (shown_count format image.now j) }
 {
-    match image::table(k, image.len()) {
+    match image::table(format, image.len()) {
         Ok(table) if j < table.count => {
             let width = table.width as u64;
             let bit = (j as u64) * width;
@@ -49,12 +49,12 @@ pub fn word_part(k: Precision, image: &[u8], j: u32) -> Part
 
 // The bytes of the image that hold the word of node j, or an empty part. The word is not judged. The promise has the bytes, and where in the
 // caller's image they stand: its memory, and the first byte's place in it.
-pub fn word_bytes(k: Precision, image: &[u8], j: u32) -> &[u8]
-    ensures bytes { result.now ≡ shown_part k.0 image.now j }
+pub fn word_bytes(format: Format, image: &[u8], j: u32) -> &[u8]
+    ensures bytes { result.now ≡ shown_part format image.now j }
     ensures same_buffer { result.ref_ptr.0 ≡ image.entry.ref_ptr.0 }
-    ensures at_place { result.ref_ptr.1 ≡ shown_from k.0 image.now j + image.entry.ref_ptr.1 }
+    ensures at_place { result.ref_ptr.1 ≡ shown_from format image.now j + image.entry.ref_ptr.1 }
 {
-    let part = word_part(k, image, j);
+    let part = word_part(format, image, j);
     let first = part.offset;
     let past = first + part.count;
     &image[first..past]

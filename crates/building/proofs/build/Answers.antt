@@ -10,6 +10,9 @@ use native.Mathlib.Omega.{arith}
 use lib.ListN.{length, drop}
 use lib.Pow.{pow_mono, pow_pos}
 use lib.Dec.{eqb}
+use Rattle.format.specs.Format.{precision_of}
+use Rattle.format.specs.declared.Format.{Format}
+use Rattle.format.proofs.Laws.{width_most, count_most}
 use Rattle.packing.specs.Packing.{bytes_taken}
 use Rattle.packing.specs.Writing.{finish_leaves, writer_before, bytes_before}
 use Rattle.packing.proofs.Written.{words_finished}
@@ -17,38 +20,39 @@ use Rattle.answers.specs.Refusal.{Outcome, some_applies}
 use Rattle.nodes.specs.Inner.{quotients_of}
 use Rattle.nodes.specs.declared.Quotients.{Quotients}
 use Rattle.tail.specs.Inner.{cleared_from}
-use Rattle.layout.specs.Layout.{image_of, length_of, rom_of}
+use Rattle.layout.specs.Layout.{Layout, image_of, length_of, rom_of}
 use Rattle.layout.proofs.Rom.{rom_written}
-use Rattle.image.specs.Image.{plain}
+use Rattle.image.specs.Image.{table_of}
 use Rattle.image.specs.Refusals.{limits}
 use Rattle.image.specs.Inner.{quotients, layout_of}
+use Rattle.image.proofs.Laws.{own_layout}
 use Rattle.image.proofs.Limits.{ImageKept, limit_passes, limit_clear, clear_kept}
 use Rattle.building.specs.Inner.{CanFill}
 use Rattle.building.proofs.build.Goals as goal
 
 -- behind the test of the limits the words of the table can be put
-can-fill : (k : ℕ) (s : List ℕ) → ImageKept k s → CanFill (quotients_of k) (length s)
-can-fill k s ok =
+can-fill : (F : Format) (s : List ℕ) → ImageKept F s → CanFill (quotients_of F) (length s)
+can-fill F s ok =
     record {
-      wide = omega (arith, ok.high);
-      few = omega (arith, pow_mono ok.high);
-      above = pow_pos (3 * k + 3);
+      wide = omega (arith, ok.high, width_most F.form (precision_of F));
+      few = omega (arith, pow_mono ok.high, count_most F.form (precision_of F));
+      above = pow_pos (3 * precision_of F + 3);
       exact = pow_mono high;
       room = ok.long;
     }
   where
-    high : 3 * k + 3 ≤ 53
+    high : 3 * precision_of F + 3 ≤ 53
     high = omega (arith, ok.high)
 
 pub fill-w-requires : goal.fill-w-requires
 fill-w-requires c =
-    let k = c.args.k.0 in
+    let F = c.args.format in
     let s = c.args.image.now in
-    rw (c.in_ok-table.ensures.numbers) (can-fill k s (clear_kept k s (limit_clear k s c.in_ok-table.ensures.refusals)))
+    rw (c.in_ok-table.ensures.numbers) (can-fill F s (clear_kept F s (limit_clear F s c.in_ok-table.ensures.refusals)))
 
 -- what the builder leaves of s by its answer
-abbrev leaves : ℕ → List ℕ → Outcome → List ℕ
-leaves k s o = cond (eqb o.number 0) (rom_of (plain k) (length s)) s
+abbrev leaves : Format → List ℕ → Outcome → List ℕ
+leaves F s o = cond (eqb o.number 0) (rom_of (table_of F) (length s)) s
 
 -- the words as they stand behind the last put
 finished : (t : Quotients) (s : List ℕ) → CanFill t (length s)
@@ -61,20 +65,21 @@ finished t s ok = words_finished t.width (quotients t) s t.count ok.wide (omega 
 
 pub returns : goal.returns
 returns c =
-    let k = c.args.k.0 in
+    let F = c.args.format in
     let s = c.args.image.now in
     let t = c.in_ok-table.table in
-    let clear : some_applies (limits k (length s)) ≡ false = limit_clear k s c.in_ok-table.ensures.refusals in
-    let ok : ImageKept k s = clear_kept k s clear in
-    let table : t ≡ quotients_of k = c.in_ok-table.ensures.numbers in
+    let clear : some_applies (limits F (length s)) ≡ false = limit_clear F s c.in_ok-table.ensures.refusals in
+    let ok : ImageKept F s = clear_kept F s clear in
+    let table : t ≡ quotients_of F = c.in_ok-table.ensures.numbers in
     let past : c.finish-past.result ≡ length_of (layout_of t) = c.finish-past.ensures.value ∙ ap bytes_taken c.fill-w.ensures.place_after in
     let words = c.finish-past.ensures.image_after ∙ ap₂ finish_leaves c.fill-w.ensures.bytes c.fill-w.ensures.writer in
     record {
       value = c.in_ok-table.ensures.refusals;
       image_after =
           c.clear.ensures
-          ∙ ap₂ cleared_from past (words ∙ finished t s (rw table (can-fill k s ok)))
+          ∙ ap₂ cleared_from past (words ∙ finished t s (rw table (can-fill F s ok)))
           ∙ ap (λ (t : Quotients). cleared_from (length_of (layout_of t)) (image_of (layout_of t) ++ drop (length_of (layout_of t)) s)) table
-          ∙ rom_written (plain k) s ok.long
-          ∙ sym (ap (leaves k s) (limit_passes k s [] 0 clear));
+          ∙ ap (λ (l : Layout). cleared_from (length_of l) (image_of l ++ drop (length_of l) s)) (own_layout F)
+          ∙ rom_written (table_of F) s ok.long
+          ∙ sym (ap (leaves F s) (limit_passes F s [] 0 clear));
     }

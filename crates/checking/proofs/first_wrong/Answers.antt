@@ -1,9 +1,9 @@
--- `checking::first_wrong` meets its contract: two words are read at once, and each is judged.
+-- `checking::first_wrong` meets its contract: two words are read at once, or the last by itself, and each is judged.
 -- Assumes nothing.
 use mathlib.Core.Path.{◌≡◌, refl, sym, ap, ◌∙◌}
 use mathlib.Core.Bool.{Bool, true, false, not}
 use mathlib.Core.List.{List}
-use Prim.Native.Nat.{ℕ, ◌+◌, ◌*◌, ◌/◌, ◌%◌, ◌^◌, ◌<◌}
+use Prim.Native.Nat.{ℕ, ◌+◌, ◌*◌, ◌-◌, ◌/◌, ◌%◌, ◌^◌, ◌≤◌, ◌<◌}
 use native.Mathlib.Omega.{arith}
 use borrow.Author.Count.{below_more}
 use borrow.Author.Tests.{lt-ltb, le-ltb}
@@ -17,7 +17,7 @@ use Rattle.bools.proofs.Lowest.{lowest_is, lowest_none}
 use Rattle.layout.specs.Layout.{is_wrong}
 use Rattle.image.specs.Inner.{layout_of}
 use Rattle.checking.specs.Inner.{AreWords, wrong_word}
-use Rattle.checking.proofs.Twos.{word_fits, first_of, second_of, judged_tells}
+use Rattle.checking.proofs.Twos.{word_fits, first_of, second_of, one_of, judged_tells}
 use Rattle.checking.proofs.first_wrong.Goals as goal
 
 -- the words before word j are right
@@ -45,7 +45,7 @@ module _ (t : Quotients) (p : AreWords t) (s : List ℕ) (bytes : Bytes s) (pair
 
   -- both words of the turn are there
   below : 2 * pair + 1 < t.count
-  below = omega (arith, p.even)
+  below = omega arith
 
   module _ {word : ℕ} (high : word ≡ both / 2 ^ t.width) where
     first_word : word ≡ word_at t.width s (2 * pair)
@@ -75,6 +75,40 @@ module _ (t : Quotients) (p : AreWords t) (s : List ℕ) (bytes : Bytes s) (pair
 
       again : is_none (judged_word t (2 * pair + 1) word2) ≡ false → RightBefore t s (2 * (pair + 1))
       again ok i h = below_more _ _ up_to_first (sym second_tells ∙ ok) i (omega arith)
+
+-- behind the loop: an even number of words are all passed, and where their number is odd, the last one is left
+module _ (t : Quotients) (p : AreWords t) (s : List ℕ) (pair : ℕ) (over : t.count / 2 ≤ pair) (right : RightBefore t s (2 * pair)) where
+  all_passed : t.count % 2 ≡ 0 → None ≡ wrong_word (layout_of t) s
+  all_passed even = none_found t s (λ i h. right i (omega (arith, h, even, over)))
+
+  module _ (odd : t.count % 2 ≡ 0 → ⊥) (upto : pair ≤ t.count / 2) where
+    last_pair : 2 * pair ≡ t.count - 1
+    last_pair = omega (arith, odd, over, upto)
+
+    last_there : t.count - 1 < t.count
+    last_there = omega (arith, odd)
+
+    module _ {bit word : ℕ} (place : bit ≡ 2 * pair * t.width) (field : word ≡ field_read s bit t.width) where
+      last_word : word ≡ word_at t.width s (t.count - 1)
+      last_word =
+          field ∙ ap (λ (b : ℕ). field_read s b t.width) (place ∙ ap (λ (j : ℕ). j * t.width) last_pair) ∙ one_of p s (t.count - 1)
+
+      last-fits : word < 2 ^ 32
+      last-fits = omega (arith, last_word, word_fits p s (t.count - 1))
+
+      last_tells : is_none (judged_word t (t.count - 1) word) ≡ is_wrong (layout_of t) s (t.count - 1)
+      last_tells = judged_tells p s (t.count - 1) last_there last_word
+
+      before_last : RightBefore t s (t.count - 1)
+      before_last i h = right i (omega (arith, h, last_pair))
+
+      last_is : is_none (judged_word t (t.count - 1) word) ≡ true → Some (t.count - 1) ≡ wrong_word (layout_of t) s
+      last_is none = found t s (t.count - 1) last_there before_last (sym last_tells ∙ none)
+
+      last_passed : is_none (judged_word t (t.count - 1) word) ≡ false → None ≡ wrong_word (layout_of t) s
+      last_passed ok =
+          let upto_last : RightBefore t s (t.count - 1 + 1) = below_more _ _ before_last (sym last_tells ∙ ok) in
+          none_found t s (λ i h. upto_last i (omega (arith, h)))
 
 -- what the test for none says of what a call gave
 none_is : {A : Type 0} {o o' : Option A} {b d : Bool} → o ≡ o' → is_some o ≡ not b → b ≡ d → is_none o' ≡ d
@@ -107,7 +141,20 @@ loop-pair-preserved c =
       omega (arith, c.loop-pair.invariant.1),
     )
 
+pub returns-then-table-eq0 : goal.returns-then-table-eq0
+returns-then-table-eq0 c =
+    all_passed c.args.table c.requires c.args.image.now c.loop-pair.pair (omega (arith, c.loop-pair-test.false)) c.loop-pair.invariant.0 c.if-table-eq0.true
+
+pub overflow_cast-word : goal.overflow_cast-word
+overflow_cast-word c =
+    record { fits = last-fits c.args.table c.requires c.args.image.now c.loop-pair.pair (omega (arith, c.loop-pair-test.false)) c.loop-pair.invariant.0 c.if-table-eq0.false (omega (arith, c.loop-pair.auto.pair-end)) c.loop-pair.invariant.1 c.field-word.ensures.value }
+
+pub returns-then-is_none-3 : goal.returns-then-is_none-3
+returns-then-is_none-3 c =
+    let none = none_is c.judged-2.ensures c.is_none-2.ensures c.if-is_none-3.true in
+    last_is c.args.table c.requires c.args.image.now c.loop-pair.pair (omega (arith, c.loop-pair-test.false)) c.loop-pair.invariant.0 c.if-table-eq0.false (omega (arith, c.loop-pair.auto.pair-end)) c.loop-pair.invariant.1 c.field-word.ensures.value none
+
 pub returns : goal.returns
 returns c =
-    let t = c.args.table in
-    none_found t c.args.image.now (λ i h. c.loop-pair.invariant.0 i (omega (arith, c.requires.even, c.loop-pair-test.false, h)))
+    let ok = none_is c.judged-2.ensures c.is_none-2.ensures c.if-is_none-3.false in
+    last_passed c.args.table c.requires c.args.image.now c.loop-pair.pair (omega (arith, c.loop-pair-test.false)) c.loop-pair.invariant.0 c.if-table-eq0.false (omega (arith, c.loop-pair.auto.pair-end)) c.loop-pair.invariant.1 c.field-word.ensures.value ok

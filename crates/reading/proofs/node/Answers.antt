@@ -10,7 +10,9 @@ use lib.ListN.{length}
 use lib.Pow.{pow_mono}
 use Rattle.std.proofs.Common.{Some, None}
 use Rattle.std.specs.Option.{ok_or}
-use Rattle.precision.specs.Precision.{word_width}
+use Rattle.format.specs.Format.{precision_of, word_width, word_count}
+use Rattle.format.specs.declared.Format.{Format}
+use Rattle.format.proofs.Laws.{width_most, count_least}
 use Rattle.packing.specs.Inner.{word_read}
 use Rattle.packing.proofs.Words.{word_lt}
 use Rattle.packing.proofs.Reading.{read_there}
@@ -21,7 +23,7 @@ use Rattle.nodes.specs.Inner.{quotients_of, judged_word}
 use Rattle.nodes.specs.declared.Quotients.{Quotients}
 use Rattle.layout.specs.Layout.{is_wrong}
 use Rattle.layout.specs.Refusals.{word_refusal}
-use Rattle.image.specs.Image.{plain, word_of, node_of}
+use Rattle.image.specs.Image.{table_of, word_of, node_of}
 use Rattle.image.specs.Refusals.{node_refusal, limits}
 use Rattle.image.specs.Calls.{node_outcome}
 use Rattle.image.specs.Inner.{own_bytes}
@@ -30,54 +32,60 @@ use Rattle.image.proofs.OwnBytes.{own_word}
 use Rattle.image.proofs.Judging.{refusal_tells, word_given, node_refused, node_served}
 use Rattle.reading.proofs.node.Goals as goal
 
--- behind the tests both limits are kept, t is the table of k, and node j has a word
-module _ (k j : ℕ) (s : List ℕ) (t : Quotients) (clear : some_applies (limits k (length s)) ≡ false) (table : t ≡ quotients_of k) (past : j ≤ t.count) (last : j ≡ t.count → ⊥) where
-  kept : ImageKept k s
-  kept = clear_kept k s clear
+-- behind the tests both limits are kept, t is the table of the format, and node j has a word
+module _ (F : Format) (j : ℕ) (s : List ℕ) (t : Quotients) (clear : some_applies (limits F (length s)) ≡ false) (table : t ≡ quotients_of F) (past : j ≤ t.first) (last : j ≡ t.count → ⊥) where
+  abbrev k : ℕ
+  k = precision_of F
 
-  below : j < 2 ^ k
-  below = omega (arith, ap (λ (q : Quotients). q.count) table)
+  kept : ImageKept F s
+  kept = clear_kept F s clear
+
+  in-table : j ≤ 2 ^ k
+  in-table = omega (arith, ap (λ (q : Quotients). q.first) table)
+
+  there : j < word_count F
+  there = omega (arith, in-table, count_least F.form k, ap (λ (q : Quotients). q.count) table)
 
   -- the word that is read is the buffer's
-  module _ {bytes : List ℕ} {word : ℕ} (own : bytes ≡ own_bytes k s) (read : word ≡ word_read t.width bytes j) where
-    word_is : word ≡ word_of k s j
+  module _ {bytes : List ℕ} {word : ℕ} (own : bytes ≡ own_bytes F s) (read : word ≡ word_read t.width bytes j) where
+    word_is : word ≡ word_of F s j
     word_is =
-        let narrow : word_width k ≤ 57 = omega (arith, kept.high) in
+        let narrow : word_width F ≤ 57 = omega (arith, kept.high, width_most F.form k) in
         read
         ∙ ap (λ (l : List ℕ). word_read t.width l j) own
-        ∙ ap (λ (q : Quotients). word_read q.width (own_bytes k s) j) table
-        ∙ read_there (word_width k) (own_bytes k s) j narrow
-        ∙ own_word k s kept j below
+        ∙ ap (λ (q : Quotients). word_read q.width (own_bytes F s) j) table
+        ∙ read_there (word_width F) (own_bytes F s) j narrow
+        ∙ own_word F s kept j there
 
     word-fits : word < 2 ^ 32
     word-fits =
-        let narrow : word_width k ≤ 26 = omega (arith, kept.high) in
-        omega (arith, word_is, word_lt (word_width k) s j, pow_mono narrow)
+        let narrow : word_width F ≤ 28 = omega (arith, kept.high, width_most F.form k) in
+        omega (arith, word_is, word_lt (word_width F) s j, pow_mono narrow)
 
     -- what is given for it is its node, and none where it is wrong
-    given : judged_word t j word ≡ cond (is_wrong (plain k) s j) None (Some (record { 0 = node_of k s j }))
-    given = ap (judged_word t j) word_is ∙ ap (λ (q : Quotients). judged_word q j (word_of k s j)) table ∙ word_given k s j below kept.high
+    given : judged_word t j word ≡ cond (is_wrong (table_of F) s j) None (Some (record { 0 = node_of F s j }))
+    given = ap (judged_word t j) word_is ∙ ap (λ (q : Quotients). judged_word q j (word_of F s j)) table ∙ word_given F s j there kept.high
 
   -- so it answers what the refusals after the limits do
-  answers : outcome_of_node (ok_or (cond (is_wrong (plain k) s j) None (Some (record { 0 = node_of k s j }))) (Word j)) ≡ node_outcome k s j
-  answers = by (is_wrong (plain k) s j) refl ∙ sym (limit_passes k s (node_refusal k j ∷ word_refusal (plain k) s j ∷ []) (node_of k s j) clear)
+  answers : outcome_of_node (ok_or (cond (is_wrong (table_of F) s j) None (Some (record { 0 = node_of F s j }))) (Word j)) ≡ node_outcome F s j
+  answers = by (is_wrong (table_of F) s j) refl ∙ sym (limit_passes F s (node_refusal k j ∷ word_refusal (table_of F) s j ∷ []) (node_of F s j) clear)
     where
-      by : (b : Bool) → is_wrong (plain k) s j ≡ b → outcome_of_node (ok_or (cond b None (Some (record { 0 = node_of k s j }))) (Word j)) ≡ outcome (node_refusal k j ∷ word_refusal (plain k) s j ∷ []) (node_of k s j)
-      by true e = sym (node_refused k s j (node_of k s j) (omega (arith, below)) (refusal_tells k s j below ∙ e))
-      by false e = sym (node_served k s j (node_of k s j) (omega (arith, below)) (refusal_tells k s j below ∙ e))
+      by : (b : Bool) → is_wrong (table_of F) s j ≡ b → outcome_of_node (ok_or (cond b None (Some (record { 0 = node_of F s j }))) (Word j)) ≡ outcome (node_refusal k j ∷ word_refusal (table_of F) s j ∷ []) (node_of F s j)
+      by true e = sym (node_refused F s j (node_of F s j) in-table (refusal_tells F s j there ∙ e))
+      by false e = sym (node_served F s j (node_of F s j) in-table (refusal_tells F s j there ∙ e))
 
 pub overflow_cast-word : goal.overflow_cast-word
 overflow_cast-word c =
     let a = c.args in
     let s = a.image.now in
-    record { fits = word-fits a.k.0 a.j s c.in_ok-table.table (limit_clear a.k.0 s c.in_ok-table.ensures.refusals) c.in_ok-table.ensures.numbers c.if-table-j.false c.if-j-table.false c.own_bytes.ensures.bytes c.word-word.ensures }
+    record { fits = word-fits a.format a.j s c.in_ok-table.table (limit_clear a.format s c.in_ok-table.ensures.refusals) c.in_ok-table.ensures.numbers c.if-table-j.false c.if-j-table.false c.own_bytes.ensures.bytes c.word-word.ensures }
 
 pub returns : goal.returns
 returns c =
     let a = c.args in
     let s = a.image.now in
-    let clear = limit_clear a.k.0 s c.in_ok-table.ensures.refusals in
+    let clear = limit_clear a.format s c.in_ok-table.ensures.refusals in
     let numbers = c.in_ok-table.ensures.numbers in
-    let word = given a.k.0 a.j s c.in_ok-table.table clear numbers c.if-table-j.false c.if-j-table.false c.own_bytes.ensures.bytes c.word-word.ensures in
+    let word = given a.format a.j s c.in_ok-table.table clear numbers c.if-table-j.false c.if-j-table.false c.own_bytes.ensures.bytes c.word-word.ensures in
     ap outcome_of_node (c.ok_or.ensures.value ∙ ap (λ o. ok_or o (Word a.j)) (c.judged.ensures ∙ word))
-    ∙ answers a.k.0 a.j s c.in_ok-table.table clear numbers c.if-table-j.false c.if-j-table.false
+    ∙ answers a.format a.j s c.in_ok-table.table clear numbers c.if-table-j.false c.if-j-table.false
