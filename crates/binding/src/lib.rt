@@ -1,4 +1,4 @@
-// A bound table: a lent image and its precision, kept together for many operands.
+// A bound table: a lent image and its format, kept together for many operands.
 #![tactic(auto)]
 
 ghost use Rattle.std.specs.Prelude.{◌≡◌};
@@ -8,50 +8,50 @@ ghost use Rattle.interpolation.specs.Calls.{reciprocal_outcome};
 ghost use Rattle.binding.specs.Bound.{bound};
 
 use answers::Refused;
+use format::Format;
 use operand::Operand;
-use precision::Precision;
 use units::{TableUnits, Ulps};
 
-// An image and its precision, of which nothing is asked: each call through the table judges both.
+// An image and its format, of which nothing is asked: each call through the table judges both.
 #[derive(Clone, Copy)]
 pub struct BoundTable<'a> {
-    pub k: Precision,
+    pub format: Format,
     pub image: &'a [u8],
 }
 
 impl<'a> BoundTable<'a> {
-    // The bound table of a precision and an image, any two.
-    pub fn new(k: Precision, image: &'a [u8]) -> BoundTable<'a>
-        ensures { result ≡ bound k image.entry }
+    // The bound table of a format and an image, any two.
+    pub fn new(format: Format, image: &'a [u8]) -> BoundTable<'a>
+        ensures { result ≡ bound format image.entry }
     {
-        BoundTable { k, image }
+        BoundTable { format, image }
     }
 
     // The value of node j, as `reading::node` gives it.
     pub fn node(self, j: u32) -> Result<TableUnits, Refused>
-        ensures { outcome_of_node result ≡ node_outcome self.entry.k.0 self.entry.image.now j }
+        ensures { outcome_of_node result ≡ node_outcome self.entry.format self.entry.image.now j }
     {
-        reading::node(self.k, self.image, j)
+        reading::node(self.format, self.image, j)
     }
 
     // The reciprocal of an operand, as `inverting::reciprocal` gives it.
     pub fn reciprocal(self, operand: Operand) -> Result<Ulps, Refused>
-        ensures { outcome_of_reciprocal result ≡ reciprocal_outcome self.entry.k.0 self.entry.image.now operand.n operand.x }
+        ensures { outcome_of_reciprocal result ≡ reciprocal_outcome self.entry.format self.entry.image.now operand.n operand.x }
     {
-        inverting::reciprocal(self.k, self.image, operand)
+        inverting::reciprocal(self.format, self.image, operand)
     }
 }
 
-// The value of node j through a bound table, for callers that have a precision and an image, as C has.
-pub fn bound_node(k: Precision, image: &[u8], j: u32) -> Result<TableUnits, Refused>
-    ensures { outcome_of_node result ≡ node_outcome k.0 image.now j }
+// The value of node j through a bound table, for callers that have a format and an image, as C has.
+pub fn bound_node(format: Format, image: &[u8], j: u32) -> Result<TableUnits, Refused>
+    ensures { outcome_of_node result ≡ node_outcome format image.now j }
 {
-    BoundTable::new(k, image).node(j)
+    BoundTable::new(format, image).node(j)
 }
 
-// The reciprocal of an operand through a bound table, for callers that have a precision and an image, as C has.
-pub fn bound_reciprocal(k: Precision, image: &[u8], operand: Operand) -> Result<Ulps, Refused>
-    ensures { outcome_of_reciprocal result ≡ reciprocal_outcome k.0 image.now operand.n operand.x }
+// The reciprocal of an operand through a bound table, for callers that have a format and an image, as C has.
+pub fn bound_reciprocal(format: Format, image: &[u8], operand: Operand) -> Result<Ulps, Refused>
+    ensures { outcome_of_reciprocal result ≡ reciprocal_outcome format image.now operand.n operand.x }
 {
-    BoundTable::new(k, image).reciprocal(operand)
+    BoundTable::new(format, image).reciprocal(operand)
 }

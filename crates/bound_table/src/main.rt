@@ -8,6 +8,7 @@ ghost use Rattle.interpolation.specs.Calls.{reciprocal_outcome};
 
 use answers::Refused;
 use binding::BoundTable;
+use format::Format;
 use operand::Operand;
 use precision::Precision;
 use std::io;
@@ -22,12 +23,12 @@ struct Answers {
 }
 
 // Binds the image once, and asks the table for the reciprocals of x and y and for node j.
-fn ask(k: Precision, image: &[u8], x: Operand, y: Operand, j: u32) -> Answers
-    ensures first { outcome_of_reciprocal result.first ≡ reciprocal_outcome k.0 image.now x.n x.x }
-    ensures second { outcome_of_reciprocal result.second ≡ reciprocal_outcome k.0 image.now y.n y.x }
-    ensures node { outcome_of_node result.node ≡ node_outcome k.0 image.now j }
+fn ask(format: Format, image: &[u8], x: Operand, y: Operand, j: u32) -> Answers
+    ensures first { outcome_of_reciprocal result.first ≡ reciprocal_outcome format image.now x.n x.x }
+    ensures second { outcome_of_reciprocal result.second ≡ reciprocal_outcome format image.now y.n y.x }
+    ensures node { outcome_of_node result.node ≡ node_outcome format image.now j }
 {
-    let table = BoundTable::new(k, image);
+    let table = BoundTable::new(format, image);
     Answers {
         first: table.reciprocal(x),
         second: table.reciprocal(y),
@@ -46,7 +47,7 @@ fn line(rt: &impl Print, answer: Result<u64, Refused>) -> io::Result<()> {
 // The operands 1 1/4 and 1 3/4, of 7 fraction bits, and node 3 by the image as one of precision 2.
 fn show(rt: &impl Print, image: &[u8]) -> io::Result<()> {
     let answers = ask(
-        Precision(2),
+        Format::plain(Precision(2)),
         image,
         Operand { n: 7, x: 160 },
         Operand { n: 7, x: 224 },
@@ -59,7 +60,7 @@ fn show(rt: &impl Print, image: &[u8]) -> io::Result<()> {
 
 fn main(rt: HostRuntime) -> io::Result<()> {
     let mut image = [0u8; 3];
-    let _ = building::build(Precision(2), &mut image);
+    let _ = building::build(Format::plain(Precision(2)), &mut image);
     show(&rt, &image)?;
     show(&rt, &image[..2])?;
     image[0] = 0;

@@ -1,9 +1,9 @@
 -- The description of the table that a call is asked for: a precision k and a form (document 02, Q-7), and the words and bytes that its image has.
 -- Assumes nothing.
-use Rattle.std.specs.Prelude.{ℕ, zero, suc, ◌+◌, ◌*◌}
+use Rattle.std.specs.Prelude.{ℕ, zero, suc, ◌+◌, ◌*◌, cond}
 use Rattle.packing.specs.Packing.{byte_count}
 use Rattle.precision.specs.Precision as plain
-use Rattle.precision.specs.Precision.{last_node}
+use Rattle.precision.specs.Precision.{last_node, in_range}
 use Rattle.format.specs.declared.Form.{Form}
 use Rattle.format.specs.declared.Form.TheVariants.{Plain, Full}
 use Rattle.format.specs.declared.Format.{Format}
@@ -52,3 +52,7 @@ word_count F = count_in F.form (precision_of F)
 -- the bytes of an image
 abbrev pub image_length : Format → ℕ
 image_length F = byte_count (word_width F) (word_count F)
+
+-- the same, and 0 where the precision is none
+abbrev pub length_or_0 : Format → ℕ
+length_or_0 F = cond (in_range (precision_of F)) (image_length F) 0

@@ -1,6 +1,6 @@
 -- The notion of a precision k (document 01, "Quantities" and "The image").
 -- Assumes nothing.
-use Rattle.std.specs.Prelude.{ℕ, ◌+◌, ◌*◌, ◌^◌, Bool, cond, ◌&&◌, leb}
+use Rattle.std.specs.Prelude.{ℕ, ◌+◌, ◌*◌, ◌^◌, Bool, ◌&&◌, leb}
 use Rattle.packing.specs.Packing.{byte_count}
 
 -- the least precision
@@ -34,7 +34,3 @@ image_length k = byte_count (word_width k) (word_count k)
 -- the bytes of the longest image
 abbrev pub longest_image : ℕ
 longest_image = image_length greatest
-
--- the bytes of an image, and 0 where k is no precision
-abbrev pub length_or_0 : ℕ → ℕ
-length_or_0 k = cond (in_range k) (image_length k) 0

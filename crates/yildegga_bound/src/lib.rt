@@ -4,25 +4,26 @@
 
 ghost use Rattle.std.specs.Prelude.{◌≡◌};
 ghost use Rattle.answers.specs.Answer.{node_read, reciprocal_given};
+ghost use Rattle.format.specs.Format.{format_of};
 ghost use Rattle.image.specs.Calls.{node_outcome};
 ghost use Rattle.interpolation.specs.Calls.{reciprocal_outcome};
 
 use answers::{NodeRead, ReciprocalGiven};
+use format::FormatNumbers;
 use operand::Operand;
-use precision::Precision;
 
 // The value of node j through a bound table.
 #[unsafe(no_mangle)]
-pub extern "C" fn yildegga_bound_node(k: u32, image: &[u8], j: u32) -> NodeRead
-    ensures { result ≡ node_read (node_outcome k image.now j) }
+pub extern "C" fn yildegga_bound_node(format: FormatNumbers, image: &[u8], j: u32) -> NodeRead
+    ensures { result ≡ node_read (node_outcome (format_of format) image.now j) }
 {
-    binding::bound_node(Precision(k), image, j).into()
+    binding::bound_node(format.into(), image, j).into()
 }
 
 // The reciprocal of the operand x through a bound table.
 #[unsafe(no_mangle)]
-pub extern "C" fn yildegga_bound_reciprocal(k: u32, image: &[u8], n: u32, x: u64) -> ReciprocalGiven
-    ensures { result ≡ reciprocal_given (reciprocal_outcome k image.now n x) }
+pub extern "C" fn yildegga_bound_reciprocal(format: FormatNumbers, image: &[u8], n: u32, x: u64) -> ReciprocalGiven
+    ensures { result ≡ reciprocal_given (reciprocal_outcome (format_of format) image.now n x) }
 {
-    binding::bound_reciprocal(Precision(k), image, Operand { n, x }).into()
+    binding::bound_reciprocal(format.into(), image, Operand { n, x }).into()
 }
