@@ -76,10 +76,7 @@ pub fn value(k: Precision, j: u32) -> Option<TableUnits>
     if last < j {
         return None;
     }
-    Some(TableUnits(quotient::rounded_up(
-        bits::power(3 * k.0 + 3),
-        last + j,
-    )))
+    Some(TableUnits(quotient::rounded_up(bits::power(3 * k.0 + 3), last + j)))
 }
 
 // What a word at node j stands for under a leading one; a zero word at node 0 means twice that. Whether the value is the

@@ -66,7 +66,12 @@ pub extern "C" fn yildegga_word_bytes(format: FormatNumbers, image: &[u8], j: u3
 
 // The reciprocal of the operand x, which has n fraction bits.
 #[unsafe(no_mangle)]
-pub extern "C" fn yildegga_reciprocal(format: FormatNumbers, image: &[u8], n: u32, x: u64) -> ReciprocalGiven
+pub extern "C" fn yildegga_reciprocal(
+    format: FormatNumbers,
+    image: &[u8],
+    n: u32,
+    x: u64,
+) -> ReciprocalGiven
     ensures { result ≡ reciprocal_given (reciprocal_outcome (format_of format) image.now n x) }
 {
     inverting::reciprocal(format.into(), image, Operand { n, x }).into()

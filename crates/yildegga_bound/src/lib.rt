@@ -22,7 +22,12 @@ pub extern "C" fn yildegga_bound_node(format: FormatNumbers, image: &[u8], j: u3
 
 // The reciprocal of the operand x through a bound table.
 #[unsafe(no_mangle)]
-pub extern "C" fn yildegga_bound_reciprocal(format: FormatNumbers, image: &[u8], n: u32, x: u64) -> ReciprocalGiven
+pub extern "C" fn yildegga_bound_reciprocal(
+    format: FormatNumbers,
+    image: &[u8],
+    n: u32,
+    x: u64,
+) -> ReciprocalGiven
     ensures { result ≡ reciprocal_given (reciprocal_outcome (format_of format) image.now n x) }
 {
     binding::bound_reciprocal(format.into(), image, Operand { n, x }).into()
