@@ -1,15 +1,16 @@
 -- What holds of the words of every form: how wide and how many they are, and what their number says of k.
 -- Assumes nothing.
-use mathlib.Core.Path.{◌≡◌}
+use mathlib.Core.Path.{◌≡◌, sym, ap}
 use mathlib.Core.Bool.{true, false}
 use Prim.Native.Nat.{ℕ, ◌+◌, ◌*◌, ◌^◌, ◌≤◌}
 use native.Mathlib.Omega.{arith}
 use Rattle.std.specs.Prelude.{Some, None, if◌then◌else◌}
 use Rattle.bools.proofs.Bools.{given, not_given}
 use Rattle.precision.specs.Precision.{in_range}
-use Rattle.format.specs.Format.{width_in, count_in}
+use Rattle.format.specs.Format.{precision_of, asked, plain_of, full_of, width_in, count_in}
 use Rattle.format.specs.declared.Form.{Form}
 use Rattle.format.specs.declared.Form.TheVariants.{Plain, Full}
+use Rattle.format.specs.declared.Format.{Format}
 
 -- a word has 2k + 2 bits or more, and 2k + 4 or fewer
 pub width_least : (f : Form) (k : ℕ) → 2 * k + 2 ≤ width_in f k
@@ -35,3 +36,10 @@ counted f k n e = given (in_range k) (count_in f k) n e
 
 pub no_words : (f : Form) (k : ℕ) → None ≡ (if in_range k then Some (count_in f k) else None) → in_range k ≡ false
 no_words f k e = not_given (in_range k) (count_in f k) e
+
+-- a format is that of its precision and form
+pub is_plain : (F : Format) → F.form ≡ Plain → plain_of (precision_of F) ≡ F
+is_plain F e = ap (λ (f : Form). asked f (precision_of F)) (sym e)
+
+pub is_full : (F : Format) → F.form ≡ Full → full_of (precision_of F) ≡ F
+is_full F e = ap (λ (f : Form). asked f (precision_of F)) (sym e)

@@ -32,6 +32,7 @@ fn interpolated(
 
 // The reciprocal of a cut operand by the words of both ends of its piece, which begins at node j; they stand at the top of the window, and are judged,
 // the lower end first. Of the kept fraction bits the last k + 3 are looked at, which are f.
+#[inline(always)]
 fn by_ends(format: Format, j: u32, window: u64, kept: u64) -> Result<Ulps, Refused>
     requires { IsPieceOf (precision_of format) j }
     ensures { outcome_of_reciprocal result ≡ ends_outcome format (both_in format window) j (kept % 2 ^ (precision_of format + 3)) }
@@ -92,6 +93,7 @@ fn by_form(format: Format, j: u32, window: u64, kept: u64) -> Result<Ulps, Refus
 // The reciprocal of the cut operand of which these 2k + 3 fraction bits were kept, where format and image keep their limits; the first k of them are j.
 // The words at both ends of its piece are had in one reading. Plain words have none of node 2^k: behind the last of them zero bits are read, which are
 // judged to be that node.
+#[inline(always)]
 fn of_cut(format: Format, image: &[u8], kept: u64) -> Result<Ulps, Refused>
     requires { IsCut format image.now kept }
     ensures { outcome_of_reciprocal result ≡ cut_outcome format image.now (cut_of (precision_of format) kept) }
@@ -103,10 +105,21 @@ fn of_cut(format: Format, image: &[u8], kept: u64) -> Result<Ulps, Refused>
 }
 
 // The reciprocal of an operand: its first 2k + 3 fraction bits decide, zeros where it has fewer.
-pub fn reciprocal(format: Format, image: &[u8], operand: Operand) -> Result<Ulps, Refused>
+#[inline(always)]
+fn of_operand(format: Format, image: &[u8], operand: Operand) -> Result<Ulps, Refused>
     ensures { outcome_of_reciprocal result ≡ reciprocal_outcome format image.now operand.n operand.x }
 {
     image::table(format, image.len())?;
     operand.limits()?;
     of_cut(format, image, operand.cut(2 * format.precision.0 + 3))
+}
+
+// The same for each form by code of its own, in which the compiler knows it.
+pub fn reciprocal(format: Format, image: &[u8], operand: Operand) -> Result<Ulps, Refused>
+    ensures { outcome_of_reciprocal result ≡ reciprocal_outcome format image.now operand.n operand.x }
+{
+    match format.form {
+        Form::Plain => of_operand(Format::plain(format.precision), image, operand),
+        Form::Full => of_operand(Format::full(format.precision), image, operand),
+    }
 }

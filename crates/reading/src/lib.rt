@@ -6,11 +6,12 @@ ghost use Rattle.answers.specs.Answer.{outcome_of_node, part};
 ghost use Rattle.image.specs.Calls.{node_outcome, shown_part, shown_from, shown_count};
 
 use answers::{Part, Refused};
-use format::Format;
+use format::{Form, Format};
 use units::TableUnits;
 
 // The value of node j; its own word alone is read. Node 2^k has none in plain words, and is then the leading one.
-pub fn node(format: Format, image: &[u8], j: u32) -> Result<TableUnits, Refused>
+#[inline(always)]
+fn by_word(format: Format, image: &[u8], j: u32) -> Result<TableUnits, Refused>
     ensures { outcome_of_node result ≡ node_outcome format image.now j }
 {
     let table = image::table(format, image.len())?;
@@ -22,6 +23,16 @@ pub fn node(format: Format, image: &[u8], j: u32) -> Result<TableUnits, Refused>
     }
     let word = packing::word(image::own_bytes(format, image), table.width, j);
     table.judged(j, word as u32).ok_or(Refused::Word(j))
+}
+
+// The same for each form by code of its own, in which the compiler knows it.
+pub fn node(format: Format, image: &[u8], j: u32) -> Result<TableUnits, Refused>
+    ensures { outcome_of_node result ≡ node_outcome format image.now j }
+{
+    match format.form {
+        Form::Plain => by_word(Format::plain(format.precision), image, j),
+        Form::Full => by_word(Format::full(format.precision), image, j),
+    }
 }
 
 // Where in the image the bytes stand that hold the word of node j; none, at the front, where there is no such word. The word is not judged. The last byte
