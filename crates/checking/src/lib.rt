@@ -8,11 +8,12 @@ ghost use Rattle.image.specs.Inner.{layout_of};
 ghost use Rattle.checking.specs.Inner.{AreWords, wrong_word};
 
 use answers::Refused;
-use format::Format;
+use format::{Form, Format};
 use nodes::Quotients;
 
 // The lowest word of a table that is wrong in the image, None where none is. Every word up to there is read, two in one reading, and the last by itself
 // where their number is odd. The bit place runs beside the words: a product in each turn costs the check 13% (tried).
+#[inline(always)]
 fn first_wrong(image: &[u8], table: Quotients) -> Option<u32>
     requires { AreWords table }
     ensures { result ≡ wrong_word (layout_of table) image.now }
@@ -43,7 +44,8 @@ fn first_wrong(image: &[u8], table: Quotients) -> Option<u32>
 
 // Whether every word of the image is the construction's and nothing but zeros stands behind the last one, to the buffer's end. Where a word is wrong,
 // the place is the lowest node of a wrong word; where the words are right and a bit behind them is one, it is the lowest byte with such a bit.
-pub fn check(format: Format, image: &[u8]) -> Result<(), Refused>
+#[inline(always)]
+fn by_words(format: Format, image: &[u8]) -> Result<(), Refused>
     ensures { outcome_of_done result ≡ check_outcome format image.now }
 {
     let table = image::table(format, image.len())?;
@@ -55,4 +57,14 @@ pub fn check(format: Format, image: &[u8]) -> Result<(), Refused>
         return Err(Refused::Tail(past));
     }
     Ok(())
+}
+
+// The same for each form by code of its own, in which the compiler knows it.
+pub fn check(format: Format, image: &[u8]) -> Result<(), Refused>
+    ensures { outcome_of_done result ≡ check_outcome format image.now }
+{
+    match format.form {
+        Form::Plain => by_words(Format::plain(format.precision), image),
+        Form::Full => by_words(Format::full(format.precision), image),
+    }
 }
