@@ -3,105 +3,180 @@
 use mathlib.Core.Path.{◌≡◌, refl, sym, ◌∙◌, ap}
 use mathlib.Core.Logic.{◌↔◌}
 use mathlib.Core.Bool.{Bool, true, false, cond}
-use mathlib.Core.List.{List, [], ◌∷◌}
-use Prim.Native.Nat.{ℕ, ◌+◌, ◌*◌, ◌%◌, ◌^◌, ◌≤◌, ◌<◌}
+use mathlib.Core.List.{List, [], ◌∷◌, ◌++◌, append-nil}
+use Prim.Native.Nat.{ℕ, ◌+◌, ◌-◌, ◌*◌, ◌/◌, ◌%◌, ◌^◌, ◌≤◌, ◌<◌}
 use native.Mathlib.Nat.{le_of_eq}
 use native.Mathlib.Omega.{arith}
-use lib.ListN.{length, take, get_or}
+use lib.ListN.{length, take, get_or, length-take}
+use lib.Seq.{get_or-take}
 use lib.Dec.{eqb}
 use borrow.Author.Tests.{eqb-true, ne_eqb}
-use Rattle.precision.specs.Precision.{image_length}
+use Rattle.format.specs.Format.{precision_of, plain_of, full_of, word_count, word_width, image_length}
+use Rattle.format.specs.declared.Format.{Format}
 use Rattle.nodes.specs.Nodes.{node}
 use Rattle.packing.specs.Packing.{Bytes, bit_at, bit_of_word}
-use Rattle.answers.specs.Refusal.{Outcome, served}
+use Rattle.packing.proofs.Bytes.{bytes_take, bytes_append}
+use Rattle.packing.proofs.Image.{bytes-packed_bytes}
+use Rattle.tail.specs.Tail.{zeros}
+use Rattle.tail.proofs.Zeros.{bytes-zeros}
+use Rattle.answers.specs.Refusal.{Outcome, outcome, served, some_applies}
 use Rattle.layout.specs.Layout.{rom_of, first_past}
 use Rattle.layout.specs.Refusals.{word_refusal}
 use Rattle.layout.proofs.Laws as layouts
 use Rattle.layout.proofs.Rom as roms
-use Rattle.image.specs.Image.{plain, image, word_of, node_of}
+use Rattle.image.specs.Image.{table_of, image, word_of, node_of}
 use Rattle.image.specs.Refusals.{node_refusal}
 use Rattle.image.specs.Calls.{build_outcome, build_leaves, check_outcome, node_outcome}
-use Rattle.image.proofs.Laws.{plain_fits, whole_bytes}
+use Rattle.image.proofs.Laws.{table_fits}
 use Rattle.image.proofs.Checks.{check_none}
 use Rattle.image.proofs.Limits.{limit_none}
 use Rattle.image.proofs.Judging.{node_served}
 use Rattle.operand.specs.Operand.{cut_operand}
+use Rattle.operand.specs.Refusals.{operand_refusals}
+use Rattle.operand.proofs.Limits.{operand_decides, operand_passes, operand_kept}
 use Rattle.interpolation.specs.Algorithm.{node_number}
-use Rattle.interpolation.specs.Reciprocal.{reciprocal}
-use Rattle.interpolation.specs.Calls.{reciprocal_outcome}
-use Rattle.statements.specs.Terms.{IsPrecision, IsLongEnough, IsRightAt, IsTailZero, IsFractionCount, IsNormalised}
+use Rattle.interpolation.specs.Reciprocal.{read_reciprocal, reciprocal}
+use Rattle.interpolation.specs.Calls.{cut_refusals, reciprocal_outcome}
+use Rattle.statements.specs.Terms.{IsPrecision, IsLongEnough, right_word, IsRightAt, IsTailZero, IsFractionCount, IsNormalised}
 use Rattle.statements.proofs.Iff.{read_right}
 use Rattle.statements.proofs.Nodes.{served_decodes}
 use Rattle.statements.proofs.Numbers.{kept_answer, later_number}
 use Rattle.statements.proofs.Reciprocals.{has_word, gives}
+use Rattle.statements.proofs.Tails.{IsFilledZero, past_end, end_zero}
 
 -- what the builder leaves, by its answer
-module _ (k : ℕ) (s : List ℕ) where
-  pub left_as_found : ((build_outcome k s).number ≡ 0 → ⊥) → build_leaves k s ≡ s
-  left_as_found f = rw (ne_eqb (build_outcome k s).number 0 f)
+module _ (F : Format) (s : List ℕ) where
+  pub left_as_found : ((build_outcome F s).number ≡ 0 → ⊥) → build_leaves F s ≡ s
+  left_as_found f = rw (ne_eqb (build_outcome F s).number 0 f)
 
-  by_image : (P : List ℕ → Type 0) → P s → (IsLongEnough k s → P (rom_of (plain k) (length s))) → P (build_leaves k s)
-  by_image P found built = go (eqb (build_outcome k s).number 0) refl
+  by_image : (P : List ℕ → Type 0) → P s → (IsLongEnough F s → P (rom_of (table_of F) (length s))) → P (build_leaves F s)
+  by_image P found built = go (eqb (build_outcome F s).number 0) refl
     where
-      go : (b : Bool) → eqb (build_outcome k s).number 0 ≡ b → P (cond b (rom_of (plain k) (length s)) s)
+      go : (b : Bool) → eqb (build_outcome F s).number 0 ≡ b → P (cond b (rom_of (table_of F) (length s)) s)
       go true e =
-          built ((later_number k s [] 0 0 tt tt).0 (eqb-true (build_outcome k s).number 0 e)).1.0
+          built ((later_number F s [] 0 0 tt tt).0 (eqb-true (build_outcome F s).number 0 e)).1.0
       go false e = found
 
-  pub built_as_long : length (build_leaves k s) ≡ length s
-  built_as_long = by_image (λ t. length t ≡ length s) refl (roms.rom_length (plain k) (length s))
+  pub built_as_long : length (build_leaves F s) ≡ length s
+  built_as_long = by_image (λ t. length t ≡ length s) refl (roms.rom_length (table_of F) (length s))
 
   -- a precision and a long enough buffer are built
-  pub built : IsPrecision k → IsLongEnough k s → build_leaves k s ≡ rom_of (plain k) (length s)
-  built p l = ap (λ (o : Outcome). cond (eqb o.number 0) (rom_of (plain k) (length s)) s) (kept_answer k s [] 0 p l)
+  pub built : IsPrecision (precision_of F) → IsLongEnough F s → build_leaves F s ≡ rom_of (table_of F) (length s)
+  built p l = ap (λ (o : Outcome). cond (eqb o.number 0) (rom_of (table_of F) (length s)) s) (kept_answer F s [] 0 p l)
 
-module _ (k : ℕ) (s : List ℕ) (p : IsPrecision k) (l : IsLongEnough k s) where
-  pub built_words : (j : ℕ) → j < 2 ^ k → IsRightAt k (build_leaves k s) j
-  built_words j h = rw (built k s p l) (roms.rom_word (plain k) (plain_fits k) (length s) j h)
+module _ (F : Format) (s : List ℕ) (p : IsPrecision (precision_of F)) (l : IsLongEnough F s) where
+  -- the buffer behind the builder
+  abbrev left : List ℕ
+  left = build_leaves F s
+
+  abbrev k : ℕ
+  k = precision_of F
+
+  pub built_words : (j : ℕ) → j < word_count F → IsRightAt F left j
+  built_words j h = rw (built F s p l) (roms.rom_word (table_of F) (table_fits F) (length s) j h)
 
   -- the image stands at the front, whatever stood there before
-  pub front : take (image_length k) (build_leaves k s) ≡ image k
-  front = rw (built k s p l) (roms.rom_front (plain k) (length s))
+  pub front : take (image_length F) left ≡ image F
+  front = rw (built F s p l) (roms.rom_front (table_of F) (length s))
 
-  -- and zeros behind it
-  pub tail_zero : IsTailZero k (build_leaves k s)
-  tail_zero = rw (built k s p l) (λ i h m. roms.rom_zero (plain k) (length s) i h (omega (arith, m, roms.rom_length (plain k) (length s) l)))
+  -- and zero bytes behind it
+  pub tail_bytes : (i : ℕ) → image_length F ≤ i → i < length left → get_or left i 0 ≡ 0
+  tail_bytes = rw (built F s p l) (λ i h m. roms.rom_zero (table_of F) (length s) i h (omega (arith, m, roms.rom_length (table_of F) (length s) l)))
 
-  still_long : IsLongEnough k (build_leaves k s)
-  still_long = rw (built_as_long k s) l
+  -- it is bytes, whatever stood there before
+  pub built_bytes : Bytes left
+  built_bytes =
+      rw (built F s p l) (bytes_append (image F) (zeros (length s - image_length F)) (bytes-packed_bytes (word_width F) (right_word F.form k) (word_count F)) (bytes-zeros (length s - image_length F)))
 
-  pub read_back : (j : ℕ) → j ≤ 2 ^ k → node_outcome k (build_leaves k s) j ≡ served (node k j)
+  still_long : IsLongEnough F left
+  still_long = rw (built_as_long F s) l
+
+  pub read_back : (j : ℕ) → j ≤ 2 ^ k → node_outcome F left j ≡ served (node k j)
   read_back j h =
-      kept_answer k (build_leaves k s) (node_refusal k j ∷ word_refusal (plain k) (build_leaves k s) j ∷ []) (node_of k (build_leaves k s) j) p still_long
-      ∙ node_served k (build_leaves k s) j (node_of k (build_leaves k s) j) h (read_right k (build_leaves k s) j (built_words j))
-      ∙ ap served (served_decodes k (build_leaves k s) j h (built_words j))
+      kept_answer F left (node_refusal k j ∷ word_refusal (table_of F) left j ∷ []) (node_of F left j) p still_long
+      ∙ node_served F left j (node_of F left j) h (read_right F left j (built_words j))
+      ∙ ap served (served_decodes F left j h (built_words j))
 
-  pub built_gives : (n X : ℕ) → IsFractionCount n → IsNormalised n X → reciprocal_outcome k (build_leaves k s) n X ≡ served (reciprocal k n X)
+  pub built_gives : (n X : ℕ) → IsFractionCount n → IsNormalised n X → reciprocal_outcome F left n X ≡ served (reciprocal k n X)
   built_gives n X c o =
-      gives k n X (build_leaves k s) p still_long c o (built_words (node_number k (cut_operand k n X)) (has_word k n X o)) (built_words (node_number k (cut_operand k n X) + 1))
+      gives F left n X p still_long c o (built_words (node_number k (cut_operand k n X)) (has_word F left n X o)) (built_words (node_number k (cut_operand k n X) + 1))
+
+  -- the answer to any operand: 4 or 5, or R
+  pub built_answers : (n X : ℕ) → reciprocal_outcome F left n X ≡ outcome (operand_refusals n X) (reciprocal k n X)
+  built_answers n X = by (some_applies (operand_refusals n X)) refl
+    where
+      by : (b : Bool) → some_applies (operand_refusals n X) ≡ b → reciprocal_outcome F left n X ≡ outcome (operand_refusals n X) (reciprocal k n X)
+      by false none =
+          let o = operand_kept n X none in
+          built_gives n X (o.low, o.high) (o.least, o.below) ∙ sym (operand_passes n X [] (reciprocal k n X) none)
+      by true some =
+          kept_answer F left (operand_refusals n X ++ cut_refusals F left (cut_operand k n X)) (read_reciprocal F left (cut_operand k n X)) p still_long
+          ∙ operand_decides n X (cut_refusals F left (cut_operand k n X)) (read_reciprocal F left (cut_operand k n X)) some
+          ∙ sym (operand_decides n X [] (reciprocal k n X) some)
 
   -- no byte has a one behind the last word
-  nothing_past : length (build_leaves k s) ≤ first_past (plain k) (build_leaves k s)
+  nothing_past : length left ≤ first_past (table_of F) left
   nothing_past =
-      rw (built k s p l) (omega (arith, roms.rom_past (plain k) (plain_fits k) (length s) l, roms.rom_length (plain k) (length s) l))
+      rw (built F s p l) (omega (arith, roms.rom_past (table_of F) (table_fits F) (length s) l, roms.rom_length (table_of F) (length s) l))
 
-  pub built_checks : check_outcome k (build_leaves k s) ≡ served 0
+  pub tail_zero : IsTailZero F left
+  tail_zero = end_zero F left nothing_past
+
+  pub built_checks : check_outcome F left ≡ served 0
   built_checks =
-      check_none k (build_leaves k s) (limit_none k (build_leaves k s) p.0 p.1 still_long) (le_of_eq (sym (layouts.all_right (plain k) (build_leaves k s) built_words))) nothing_past
+      check_none F left (limit_none F left p.0 p.1 still_long) (le_of_eq (sym (layouts.all_right (table_of F) left built_words))) nothing_past
 
--- right words and a zero tail make a full ROM, and the other way round
-pub right_is_rom : (k : ℕ) (s : List ℕ) → IsPrecision k → Bytes s → IsLongEnough k s → (((j : ℕ) → j < 2 ^ k → IsRightAt k s j) × IsTailZero k s) ↔ (s ≡ rom_of (plain k) (length s))
-right_is_rom k s p bytes l = (to, from)
-  where
-    to : ((j : ℕ) → j < 2 ^ k → IsRightAt k s j) × IsTailZero k s → s ≡ rom_of (plain k) (length s)
-    to t = roms.right_rom (plain k) (plain_fits k) s bytes l t.0 (roms.past_none (plain k) (whole_bytes k p.0) s t.1)
+-- from the images of both forms every operand has the same answer
+pub same_in_both : (k : ℕ) (s s' : List ℕ) → IsPrecision k → IsLongEnough (plain_of k) s → IsLongEnough (full_of k) s' → (n X : ℕ)
+    → reciprocal_outcome (plain_of k) (build_leaves (plain_of k) s) n X ≡ reciprocal_outcome (full_of k) (build_leaves (full_of k) s') n X
+same_in_both k s s' p l m n X = built_answers (plain_of k) s p l n X ∙ sym (built_answers (full_of k) s' p m n X)
 
-    from : s ≡ rom_of (plain k) (length s) → ((j : ℕ) → j < 2 ^ k → IsRightAt k s j) × IsTailZero k s
-    from e = (
-      λ j h. ap (λ (u : List ℕ). word_of k u j) e ∙ roms.rom_word (plain k) (plain_fits k) (length s) j h,
-      λ i h m. ap (λ (u : List ℕ). get_or u i 0) e ∙ roms.rom_zero (plain k) (length s) i h m,
-    )
+-- right words with nothing behind them make a full ROM, and the other way round
+module _ (F : Format) (s : List ℕ) (bytes : Bytes s) (l : IsLongEnough F s) where
+  pub right_is_rom : (((j : ℕ) → j < word_count F → IsRightAt F s j) × IsTailZero F s) ↔ (s ≡ rom_of (table_of F) (length s))
+  right_is_rom = (to, from)
+    where
+      to : ((j : ℕ) → j < word_count F → IsRightAt F s j) × IsTailZero F s → s ≡ rom_of (table_of F) (length s)
+      to t = roms.right_rom (table_of F) (table_fits F) s bytes l t.0 (past_end F s t.1)
+
+      from : s ≡ rom_of (table_of F) (length s) → ((j : ℕ) → j < word_count F → IsRightAt F s j) × IsTailZero F s
+      from e = (
+        λ j h. ap (λ (u : List ℕ). word_of F u j) e ∙ roms.rom_word (table_of F) (table_fits F) (length s) j h,
+        end_zero F s
+            (le_of_eq (sym (ap (first_past (table_of F)) e ∙ roms.rom_past (table_of F) (table_fits F) (length s) l))),
+      )
+
+  -- the front of a buffer is the image exactly where its words are right and its filling bits are zero
+  pub right_is_image : (((j : ℕ) → j < word_count F → IsRightAt F s j) × IsFilledZero F s) ↔ (take (image_length F) s ≡ image F)
+  right_is_image = (to, from)
+    where
+      as_long : length (take (image_length F) s) ≡ image_length F
+      as_long = length-take (image_length F) s ∙ omega (arith, l)
+
+      same_bit : (b : ℕ) → b < 8 * image_length F → bit_at (take (image_length F) s) b ≡ bit_at s b
+      same_bit b h = ap (λ (x : ℕ). x / 2 ^ (7 - b % 8) % 2) (get_or-take (image_length F) s (b / 8) 0 (omega (arith, h)))
+
+      no_zeros : rom_of (table_of F) (image_length F) ≡ image F
+      no_zeros = ap (λ (n : ℕ). image F ++ zeros n) {x = image_length F - image_length F} {y = 0} (omega arith) ∙ append-nil (image F)
+
+      to : ((j : ℕ) → j < word_count F → IsRightAt F s j) × IsFilledZero F s → take (image_length F) s ≡ image F
+      to t =
+          roms.right_rom (table_of F) (table_fits F) (take (image_length F) s) (bytes_take (image_length F) s bytes) (le_of_eq (sym as_long))
+          (λ j h. layouts.own_word (table_of F) (table_fits F) s j h ∙ t.0 j h)
+          (past_end F (take (image_length F) s) (λ b h m. let less : b < 8 * image_length F = omega (arith, m, as_long) in same_bit b less ∙ t.1 b h less))
+          ∙ ap (rom_of (table_of F)) as_long
+          ∙ no_zeros
+
+      from : take (image_length F) s ≡ image F → ((j : ℕ) → j < word_count F → IsRightAt F s j) × IsFilledZero F s
+      from e = (
+        layouts.front_right (table_of F) (table_fits F) s e,
+        λ b h m.
+            sym (same_bit b m)
+            ∙ end_zero F (take (image_length F) s)
+            (le_of_eq (as_long ∙ sym (ap (first_past (table_of F)) (e ∙ sym no_zeros) ∙ roms.rom_past (table_of F) (table_fits F) (image_length F) (omega arith))))
+            b h (omega (arith, m, as_long)),
+      )
 
 -- bit b of word j of the image
-pub image_bits : (k j b : ℕ) → j < 2 ^ k → b < 2 * k + 2 → bit_at (image k) (j * (2 * k + 2) + b) ≡ bit_of_word (2 * k + 2) (node k j % 2 ^ (2 * k + 2)) b
-image_bits k = layouts.image_bit (plain k) (plain_fits k)
+pub image_bits : (F : Format) (j b : ℕ) → j < word_count F → b < word_width F → bit_at (image F) (j * word_width F + b) ≡ bit_of_word (word_width F) (right_word F.form (precision_of F) j) b
+image_bits F = layouts.image_bit (table_of F) (table_fits F)

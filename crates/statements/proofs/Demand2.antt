@@ -1,51 +1,60 @@
 -- Demand 2: nodes, image and reciprocal. Its clauses in our own words, each with what settles it; theorems stand on this page where no other
--- is named.
+-- is named. What speaks of an image is of every format F, that is of both forms of words; proofs/Plain.antt and proofs/Full.antt say in the numbers of
+-- one form what reads otherwise there.
 --
 -- 1. The nodes are those of Algorithm 1, 2^(3k+3) / i rounded up: node_reaches, node_least; their sizes and order: first_node, last-node,
 --    node_between, node_leading_one, node_step. What the call on the constant list of precision 8 gives: node_8_listed, no_node_8.
 -- 2. With two table guard bits: a node is counted in table units, two bits finer than the ulps of R: ulp_in_table_units, one_in_both_units,
 --    first_node_is_one, exact_in_table_units.
--- 3. The image is that of these nodes: its length length_eighth, image_bytes, image_whole, length_listed, no_length; its words built_word; its bits
---    image_bit. The builder leaves it at the front of the buffer, and zeros behind it: built_rom, built_front, built_tail. What a word of any
---    bytes is: word_below, word_bit; what a zero word is: zero_word_first, zero_word_wrong.
+-- 3. The image is that of these nodes: its length length_in_bits, image_bytes, in plain words length_eighth, image_whole, in full ones length_full;
+--    what the call for a length gives, length_listed, no_length; its words built_word, with right_word_low and right_word_fits for what they are; its
+--    bits image_bit. The builder leaves it at the front of the buffer, and zeros behind it: built_rom, built_front, built_tail. What a word of any
+--    bytes is: word_below, word_bit; what a zero word is: zero_word_first, zero_word_wrong, zero_full_word_wrong.
 -- 4. The reciprocal is that of Algorithm 2: step_t, with step_t_cut and step_t_padded, step_i, step_j, step_f, step_P, step_R, with line_P and
 --    differences. The call gives it from every image that was built (built_gives), and gives no other from any image (given_is_R, in Demand3).
+--    It does not depend on the form: what is answered to an operand from an image that was built is 4, 5 or R (built_answers), so that images of both
+--    forms that were built for one precision give every operand the same answer: forms_agree.
 -- 5. With three input guard bits: t has 2k + 3 fraction bits, three more than 2k (step_t); k of them go to i and k + 3 to f
 --    (step_i, step_f).
 -- 6. Nodes that are read back from a built image are those that were put in: node_read_back.
--- 7. A buffer passes the check exactly when all words of its image are right and its tail is zero: check_passes_words; exactly when it is the
---    image and then zeros: check_passes_rom. The words are right exactly when its first bytes are the image: words_right_bytes. A buffer that
---    was built passes: built_passes.
+-- 7. A buffer passes the check exactly when all words of its image are right, the bits that fill its last byte are zero and its tail is zero:
+--    check_passes_words; exactly when it is the image and then zeros: check_passes_rom. Words and filling bits are right exactly when its first bytes
+--    are the image: words_right_bytes. A buffer that was built passes: built_passes.
 -- 8. For all contents: what a buffer s holds, also before it is built, is any list of numbers. Only word_bit, check_passes_words,
---    words_right_bytes and check_passes_rom ask that these are bytes.
+--    words_right_bytes, check_passes_rom, node_by_bits, reciprocal_by_bits and check_by_bits ask that these are bytes.
 --
 -- 9. While an image is built (document 02, Q-4), the bit place of the next word is one number, which starts at 0 and grows by the width at each word, for
 --    any words and any width that can be put, up to 32: place_starts, place_grows; a word that has room can be put, room_to_put, and where one cannot be put, all
 --    stays: put_keeps. Before word j the place is j × w, while that is below 2^64: place_before_word; each word of up to 32 bits that has room is put so:
---    word_is_put. Of a precision it is j × w before word j and 2^k × w after the last: place_before_node, place_after_last; and what is put then is the image:
+--    word_is_put. Of a format it is j × w before word j and, after the last, w times the number of words, which is 2^k × (2k + 2) in plain words and
+--    (2^k + 1) × (2k + 4) in full ones: place_before_node, place_after_last, place_after_plain, place_after_full; and what is put then is the image:
 --    puts_image.
 --
 -- Which words and bytes a call reads is said by what its answer depends on (docs/DECISIONS.md, "Reading"): node_by_its_word, check_by_words,
 -- reciprocal_by_words, reciprocal_by_lower_word, word_by_its_bytes; none past the image: node_by_image, reciprocal_by_image, part_by_image,
--- part_place_by_image, and, where a word is wrong, check_by_image. The reciprocal reads both words, whatever f is: lower_word_named,
--- upper_word_named, upper_word_named_at_0.
+-- part_place_by_image, and, where a word is wrong, check_by_image. Nor do the filling bits count but for a check that finds all words right:
+-- node_by_bits, reciprocal_by_bits, check_by_bits. The reciprocal reads both words, whatever f is: lower_word_named, upper_word_named,
+-- upper_word_named_at_0.
 --
 -- Each theorem assumes no more than ranges of its numbers: that k is a precision or from 1 on, that n is from 1 to 63, or at most or at least
 -- 2k + 3, that X is normalised, that a buffer is long enough, that its elements are bytes; and, where two buffers are compared or a wrong word is
--- named, which of their words or bytes agree or are wrong; of puts, that a width is at most 32, that a place is below 2^64, that a word has room, or that it can
--- or cannot be put.
-use mathlib.Core.Path.{◌≡◌, refl, ◌∙◌}
+-- named, which of their words, bytes or bits agree or are wrong, or that both were built; of puts, that a width is at most 32, that a place is below 2^64,
+-- that a word has room, or that it can or cannot be put.
+use mathlib.Core.Path.{◌≡◌, refl, sym}
 use mathlib.Core.Logic.{◌↔◌}
 use mathlib.Core.Bool.{true, false}
 use mathlib.Core.List.{List, ◌++◌}
 use Prim.Native.Nat.{ℕ, suc, ◌+◌, ◌-◌, ◌*◌, ◌/◌, ◌%◌, ◌^◌, ◌≤◌, ◌<◌}
 use native.Mathlib.Omega.{arith}
 use lib.ListN.{length, take, drop, get_or}
-use Rattle.precision.specs.Precision.{in_range, image_length, length_or_0}
+use Rattle.precision.specs.Precision.{in_range}
 use Rattle.precision.proofs.Range.{range_in}
+use Rattle.format.specs.Format.{precision_of, plain_of, full_of, word_count, word_width, image_length, length_or_0}
+use Rattle.format.specs.declared.Format.{Format}
 use Rattle.units.specs.Units.{table_units_in_one, ulps_in_one, table_units_in_ulp}
 use Rattle.units.proofs.Laws.{ulp_in_units}
 use Rattle.nodes.specs.Nodes.{node, node_or_0}
+use Rattle.nodes.proofs.Forms.{stored_lt, stored_low}
 use Rattle.nodes.proofs.Nodes.{node_first, node_last, node_above, node_below, node_falls, node_there, node_past}
 use Rattle.quotient.proofs.Laws.{reaches, least}
 use Rattle.packing.specs.Packing.{Bytes, bit_at, bit_of_word}
@@ -55,25 +64,28 @@ use Rattle.packing.proofs.Written.{can-put, place_after, place-before, word_put}
 use Rattle.tail.specs.Tail.{zeros}
 use Rattle.packing.proofs.Words.{word_lt}
 use Rattle.packing.proofs.Bits.{bit-of-word}
-use Rattle.answers.specs.Refusal.{served}
-use Rattle.image.specs.Image.{plain, image, word_of}
-use Rattle.image.specs.Calls.{build_leaves, check_outcome, node_outcome, shown_part, shown_from}
+use Rattle.answers.specs.Refusal.{outcome, served}
+use Rattle.image.specs.Image.{table_of, image, word_of}
+use Rattle.image.specs.Calls.{build_outcome, build_leaves, check_outcome, node_outcome, shown_part, shown_from}
 use Rattle.layout.proofs.Laws as layouts
-use Rattle.image.proofs.Laws.{plain_fits, eighths, whole_bytes, eighth_of_bits}
+use Rattle.image.proofs.Laws.{eighths, eighth_of_bits}
 use Rattle.operand.specs.Operand.{cut_operand}
+use Rattle.operand.specs.Refusals.{operand_refusals}
 use Rattle.operand.proofs.Laws.{cut_long, cut_short}
 use Rattle.interpolation.specs.Algorithm.{index, node_number, fraction, cut_product_sum}
 use Rattle.interpolation.specs.Reciprocal.{reciprocal}
 use Rattle.interpolation.specs.Calls.{reciprocal_outcome}
-use Rattle.statements.specs.Terms.{IsPrecision, IsLongEnough, IsRightAt, IsTailZero, IsFractionCount, IsNormalised}
-use Rattle.statements.proofs.Iff.{joined, failed, no_precision}
-use Rattle.statements.proofs.Demand1.{check_serves}
+use Rattle.statements.specs.Terms.{IsPrecision, IsLongEnough, right_word, IsRightAt, IsTailZero, IsFractionCount, IsNormalised}
+use Rattle.statements.proofs.Iff.{joined, both, same, row3, failed, no_precision}
+use Rattle.statements.proofs.Demand1.{build_serves, check_serves}
+use Rattle.statements.proofs.Bits.{same_words}
 use Rattle.statements.proofs.Built
 use Rattle.statements.proofs.Depends
 use Rattle.statements.proofs.Nodes
 use Rattle.statements.proofs.Puts
 use Rattle.statements.proofs.Reciprocals
 use Rattle.statements.proofs.Sizes
+use Rattle.statements.proofs.Tails.{zero_parts}
 use Rattle.statements.proofs.Units
 
 -- The nodes (document 002, Algorithm 1), for every k.
@@ -178,61 +190,97 @@ module _ (k n X : ℕ) where
   pub differences : IsNormalised n X → (2 ^ k + j ≡ i) × (j < 2 ^ k) × (c (j + 1) ≤ c j) × ((c j - c (j + 1)) * f ≤ c j * 2 ^ (k + 3))
   differences = Reciprocals.differences k n X
 
--- The image has 2^k × (2k + 2) / 8 bytes, and these are whole, for every k from 1.
-module _ (k : ℕ) (one : 1 ≤ k) where
-  pub length_eighth : image_length k ≡ 2 ^ k * (2 * k + 2) / 8
-  length_eighth = eighth_of_bits k one
+-- The image of a format: its words of w bits one behind the other, and zero bits to the end of the last byte.
+module _ (F : Format) where
+  pub length_in_bits : image_length F ≡ (word_count F * word_width F + 7) / 8
+  length_in_bits = refl
 
-  pub image_bytes : length (image k) ≡ 2 ^ k * (2 * k + 2) / 8
-  image_bytes = layouts.image-length (plain k) ∙ length_eighth
+  pub image_bytes : length (image F) ≡ image_length F
+  image_bytes = layouts.image-length (table_of F)
+
+  -- its words: c(j) modulo 2^(2k+2) in plain words and c(j) itself in full ones, which are in both forms the lowest w bits of c(j)
+  pub right_word_low : (j : ℕ) → right_word F.form (precision_of F) j ≡ node (precision_of F) j % 2 ^ word_width F
+  right_word_low j = sym (stored_low F.form (precision_of F) j)
+
+  pub right_word_fits : (j : ℕ) → right_word F.form (precision_of F) j < 2 ^ word_width F
+  right_word_fits = stored_lt F.form (precision_of F)
+
+-- Plain words take 2^k × (2k + 2) / 8 bytes, and these are whole, for every k from 1.
+module _ (k : ℕ) (one : 1 ≤ k) where
+  pub length_eighth : image_length (plain_of k) ≡ 2 ^ k * (2 * k + 2) / 8
+  length_eighth = eighth_of_bits k one
 
   pub image_whole : 8 * (2 ^ k * (2 * k + 2) / 8) ≡ 2 ^ k * (2 * k + 2)
   image_whole = eighths k one
 
+-- Full words take (2^k + 1) × (2k + 4) bits, and the bytes that hold these.
+pub length_full : (k : ℕ) → image_length (full_of k) ≡ ((2 ^ k + 1) * (2 * k + 4) + 7) / 8
+length_full k = refl
+
 -- What it holds.
-module _ (k : ℕ) (p : IsPrecision k) where
+module _ (F : Format) (p : IsPrecision (precision_of F)) where
   -- the builder leaves the image and zeros to the end of the buffer, whatever stood there before: of what it is lent, only the length counts
-  pub built_rom : (s : List ℕ) → IsLongEnough k s → build_leaves k s ≡ image k ++ zeros (length s - image_length k)
-  built_rom s l = Built.built k s p l
+  pub built_rom : (s : List ℕ) → IsLongEnough F s → build_leaves F s ≡ image F ++ zeros (length s - image_length F)
+  built_rom s l = Built.built F s p l
 
-  pub built_front : (s : List ℕ) → IsLongEnough k s → take (image_length k) (build_leaves k s) ≡ image k
-  built_front s l = Built.front k s p l
+  pub built_front : (s : List ℕ) → IsLongEnough F s → take (image_length F) (build_leaves F s) ≡ image F
+  built_front s l = Built.front F s p l
 
-  pub built_tail : (s : List ℕ) → IsLongEnough k s → IsTailZero k (build_leaves k s)
-  built_tail s l = Built.tail_zero k s p l
+  -- no bit behind the last word is one
+  pub built_tail : (s : List ℕ) → IsLongEnough F s → IsTailZero F (build_leaves F s)
+  built_tail s l = Built.tail_zero F s p l
 
-  -- the words of a built image are c(j) modulo 2^(2k+2), whatever the buffer held before
-  pub built_word : (s : List ℕ) → IsLongEnough k s → (j : ℕ) → j < 2 ^ k → word_of k (build_leaves k s) j ≡ node k j % 2 ^ (2 * k + 2)
-  built_word s l j h = Built.built_words k s p l j h
+  -- the words of a built image are those of the nodes, whatever the buffer held before
+  pub built_word : (s : List ℕ) → IsLongEnough F s → (j : ℕ) → j < word_count F → word_of F (build_leaves F s) j ≡ right_word F.form (precision_of F) j
+  built_word s l j h = Built.built_words F s p l j h
 
   -- most significant bit first, with no padding: bit b of word j is bit j × w + b of the image
-  pub image_bit : (j b : ℕ) → j < 2 ^ k → b < 2 * k + 2 → bit_at (image k) (j * (2 * k + 2) + b) ≡ bit_of_word (2 * k + 2) (node k j % 2 ^ (2 * k + 2)) b
-  image_bit j b h l = Built.image_bits k j b h l
+  pub image_bit : (j b : ℕ) → j < word_count F → b < word_width F → bit_at (image F) (j * word_width F + b) ≡ bit_of_word (word_width F) (right_word F.form (precision_of F) j) b
+  image_bit j b h l = Built.image_bits F j b h l
 
-  -- every node read back from a buffer that was built is served and is c(j), whatever the buffer held before
-  pub node_read_back : (s : List ℕ) → IsLongEnough k s → (j : ℕ) → j ≤ 2 ^ k → node_outcome k (build_leaves k s) j ≡ served (node k j)
-  node_read_back s l j h = Built.read_back k s p l j h
+  -- every node, from 0 to 2^k, read back from a buffer that was built is served and is c(j), whatever the buffer held before
+  pub node_read_back : (s : List ℕ) → IsLongEnough F s → (j : ℕ) → j ≤ 2 ^ precision_of F → node_outcome F (build_leaves F s) j ≡ served (node (precision_of F) j)
+  node_read_back s l j h = Built.read_back F s p l j h
 
   -- and the buffer passes the check
-  pub built_passes : (s : List ℕ) → IsLongEnough k s → check_outcome k (build_leaves k s) ≡ served 0
-  built_passes s l = Built.built_checks k s p l
+  pub built_passes : (s : List ℕ) → IsLongEnough F s → check_outcome F (build_leaves F s) ≡ served 0
+  built_passes s l = Built.built_checks F s p l
 
   -- every operand in range is given its R from a buffer that was built, whatever the buffer held before
-  pub built_gives : (s : List ℕ) → IsLongEnough k s → (n X : ℕ) → IsFractionCount n → IsNormalised n X → reciprocal_outcome k (build_leaves k s) n X ≡ served (reciprocal k n X)
-  built_gives s l = Built.built_gives k s p l
+  pub built_gives : (s : List ℕ) → IsLongEnough F s → (n X : ℕ) → IsFractionCount n → IsNormalised n X → reciprocal_outcome F (build_leaves F s) n X ≡ served (reciprocal (precision_of F) n X)
+  built_gives s l = Built.built_gives F s p l
 
-  -- a buffer passes the check exactly when each word is the construction's and each byte past the image is zero
-  pub check_passes_words : (s : List ℕ) → Bytes s → IsLongEnough k s
-      → ((check_outcome k s).number ≡ 0) ↔ (((j : ℕ) → j < 2 ^ k → word_of k s j ≡ node k j % 2 ^ (2 * k + 2)) × ((i : ℕ) → image_length k ≤ i → i < length s → get_or s i 0 ≡ 0))
-  check_passes_words s b l = joined (check_serves k s b) (λ t. (t.2, t.3), λ t. (p, l, t.0, t.1))
+  -- so the answer to any operand is 4 or 5 where one of them applies, and R otherwise
+  pub built_answers : (s : List ℕ) → IsLongEnough F s → (n X : ℕ) → reciprocal_outcome F (build_leaves F s) n X ≡ outcome (operand_refusals n X) (reciprocal (precision_of F) n X)
+  built_answers s l = Built.built_answers F s p l
 
-  -- the words are right exactly when the first bytes are the image
-  pub words_right_bytes : (s : List ℕ) → Bytes s → IsLongEnough k s → ((j : ℕ) → j < 2 ^ k → word_of k s j ≡ node k j % 2 ^ (2 * k + 2)) ↔ (take (image_length k) s ≡ image k)
-  words_right_bytes s b l = (layouts.right_front (plain k) (plain_fits k) (whole_bytes k p.0) s b l, layouts.front_right (plain k) (plain_fits k) s)
+  words_and_tail : (s : List ℕ) → IsLongEnough F s → ((check_outcome F s).number ≡ 0) ↔ (((j : ℕ) → j < word_count F → IsRightAt F s j) × IsTailZero F s)
+  words_and_tail s l = joined (check_serves F s) (λ t. (t.2, t.3), λ t. (p, l, t.0, t.1))
+
+  -- a buffer passes the check exactly when each word is the construction's, each bit that fills the image's last byte is zero, and so is each byte past
+  -- the image
+  pub check_passes_words : (s : List ℕ) → Bytes s → IsLongEnough F s
+      → ((check_outcome F s).number ≡ 0)
+      ↔ (((j : ℕ) → j < word_count F → word_of F s j ≡ right_word F.form (precision_of F) j) × ((b : ℕ) → word_count F * word_width F ≤ b → b < 8 * image_length F → bit_at s b ≡ 0) × ((i : ℕ) → image_length F ≤ i → i < length s → get_or s i 0 ≡ 0))
+  check_passes_words s b l = joined (words_and_tail s l) (joined (both same (zero_parts F s b l)) row3)
+
+  -- the words and the filling bits are right exactly when the first bytes are the image
+  pub words_right_bytes : (s : List ℕ) → Bytes s → IsLongEnough F s
+      → (((j : ℕ) → j < word_count F → word_of F s j ≡ right_word F.form (precision_of F) j) × ((b : ℕ) → word_count F * word_width F ≤ b → b < 8 * image_length F → bit_at s b ≡ 0)) ↔ (take (image_length F) s ≡ image F)
+  words_right_bytes s b l = Built.right_is_image F s b l
 
   -- and the buffer passes exactly when it is the image and then zeros
-  pub check_passes_rom : (s : List ℕ) → Bytes s → IsLongEnough k s → ((check_outcome k s).number ≡ 0) ↔ (s ≡ image k ++ zeros (length s - image_length k))
-  check_passes_rom s b l = joined (check_passes_words s b l) (Built.right_is_rom k s p b l)
+  pub check_passes_rom : (s : List ℕ) → Bytes s → IsLongEnough F s → ((check_outcome F s).number ≡ 0) ↔ (s ≡ image F ++ zeros (length s - image_length F))
+  check_passes_rom s b l = joined (words_and_tail s l) (Built.right_is_rom F s b l)
+
+-- R does not depend on the form: from a plain image and a full one of the same precision, both built, whatever their buffers held before and however long
+-- they are, every operand has the same answer, number, place and value.
+pub forms_agree : (k : ℕ) (s s' : List ℕ) → (build_outcome (plain_of k) s).number ≡ 0 → (build_outcome (full_of k) s').number ≡ 0 → (n X : ℕ)
+    → reciprocal_outcome (plain_of k) (build_leaves (plain_of k) s) n X ≡ reciprocal_outcome (full_of k) (build_leaves (full_of k) s') n X
+forms_agree k s s' e d n X =
+    let t = (build_serves (plain_of k) s).0 e in
+    let u = (build_serves (full_of k) s').0 d in
+    Built.same_in_both k s s' t.0 t.1 u.1 n X
 
 -- A put, by any writer r, of any word v of w bits into any buffer s. Where the word can be put, the place grows by w, while it stays below 2^64; where the word is
 -- wider than 32 bits, or eight bytes are to be stored and have no room, the writer is given back and every byte stays.
@@ -260,95 +308,119 @@ module _ (w : ℕ) (f : ℕ → ℕ) where
       → (put_writer (bytes_before w f s j) (writer_before w f j) w (f j) ≡ writer_before w f (suc j)) × (put_leaves (bytes_before w f s j) (writer_before w f j) w (f j) ≡ bytes_before w f s (suc j))
   word_is_put s j wide few room = word_put w f s j wide few room
 
--- Of a precision, whose words are the lowest w = 2k + 2 bits of the nodes: before word j the place is j × w, after the last it is 2^k × w.
-module _ (k : ℕ) (p : IsPrecision k) where
-  pub place_before_node : (j : ℕ) → j ≤ 2 ^ k → (writer_before (2 * k + 2) (node k) j).place ≡ j * (2 * k + 2)
-  place_before_node j h = Puts.place k p j h
+-- Of a format, whose words are the lowest w bits of the nodes: before word j the place is j × w, after the last it is w times the number of words.
+module _ (F : Format) (p : IsPrecision (precision_of F)) where
+  pub place_before_node : (j : ℕ) → j ≤ word_count F → (writer_before (word_width F) (node (precision_of F)) j).place ≡ j * word_width F
+  place_before_node j h = Puts.place F p j h
 
-  pub place_after_last : (writer_before (2 * k + 2) (node k) (2 ^ k)).place ≡ 2 ^ k * (2 * k + 2)
-  place_after_last = Puts.place k p (2 ^ k) (omega arith)
+  pub place_after_last : (writer_before (word_width F) (node (precision_of F)) (word_count F)).place ≡ word_count F * word_width F
+  place_after_last = Puts.place F p (word_count F) (omega arith)
 
   -- and with what still waits, the image stands at the front of the buffer, and what was behind it stays
-  pub puts_image : (s : List ℕ) → IsLongEnough k s
-      → finish_leaves (bytes_before (2 * k + 2) (node k) s (2 ^ k)) (writer_before (2 * k + 2) (node k) (2 ^ k)) ≡ image k ++ drop (image_length k) s
-  puts_image s l = Puts.finished k p s l
+  pub puts_image : (s : List ℕ) → IsLongEnough F s
+      → finish_leaves (bytes_before (word_width F) (node (precision_of F)) s (word_count F)) (writer_before (word_width F) (node (precision_of F)) (word_count F)) ≡ image F ++ drop (image_length F) s
+  puts_image s l = Puts.finished F p s l
+
+-- That is 2^k × w with w = 2k + 2 for plain words, and (2^k + 1) × w with w = 2k + 4 for full ones.
+module _ (k : ℕ) (p : IsPrecision k) where
+  pub place_after_plain : (writer_before (2 * k + 2) (node k) (2 ^ k)).place ≡ 2 ^ k * (2 * k + 2)
+  place_after_plain = place_after_last (plain_of k) p
+
+  pub place_after_full : (writer_before (2 * k + 4) (node k) (2 ^ k + 1)).place ≡ (2 ^ k + 1) * (2 * k + 4)
+  place_after_full = place_after_last (full_of k) p
 
 -- What an answer depends on.
-module _ (k : ℕ) (s s' : List ℕ) (l : IsLongEnough k s) (m : IsLongEnough k s') where
-  -- a node's answer depends on its own word alone, and at node 2^k on none
-  pub node_by_its_word : (j : ℕ) → (j < 2 ^ k → word_of k s j ≡ word_of k s' j) → node_outcome k s j ≡ node_outcome k s' j
-  node_by_its_word = Depends.node_same k s s' l m
+module _ (F : Format) (s s' : List ℕ) (l : IsLongEnough F s) (m : IsLongEnough F s') where
+  -- a node's answer depends on its own word alone, and of a node that has none on no word
+  pub node_by_its_word : (j : ℕ) → (j < word_count F → word_of F s j ≡ word_of F s' j) → node_outcome F s j ≡ node_outcome F s' j
+  node_by_its_word = Depends.node_same F s s' l m
 
   -- where a word is wrong, the check's depends on the words of the image alone, whatever the tail holds; where all are
   -- right, the tail decides (check_serves, check_refuses_7 and check_place_7 in Demand1)
-  pub check_by_words : (j : ℕ) → j < 2 ^ k → (IsRightAt k s j → ⊥) → ((i : ℕ) → i < 2 ^ k → word_of k s i ≡ word_of k s' i) → check_outcome k s ≡ check_outcome k s'
-  check_by_words = Depends.check_same k s s' l m
+  pub check_by_words : (j : ℕ) → j < word_count F → (IsRightAt F s j → ⊥) → ((i : ℕ) → i < word_count F → word_of F s i ≡ word_of F s' i) → check_outcome F s ≡ check_outcome F s'
+  check_by_words = Depends.check_same F s s' l m
 
-  -- the reciprocal's depends on the words of j and j + 1 alone, and where j + 1 is 2^k on that of j
-  pub reciprocal_by_words : (n X : ℕ) → word_of k s (j k n X) ≡ word_of k s' (j k n X) → (j k n X + 1 < 2 ^ k → word_of k s (j k n X + 1) ≡ word_of k s' (j k n X + 1)) → reciprocal_outcome k s n X ≡ reciprocal_outcome k s' n X
-  reciprocal_by_words n X e = Depends.reciprocal_same k s s' l m n X (λ h. e)
+  -- the reciprocal's depends on the words of j and j + 1 alone, and where node j + 1 has none on that of j
+  pub reciprocal_by_words : (n X : ℕ) → word_of F s (j (precision_of F) n X) ≡ word_of F s' (j (precision_of F) n X) → (j (precision_of F) n X + 1 < word_count F → word_of F s (j (precision_of F) n X + 1) ≡ word_of F s' (j (precision_of F) n X + 1)) → reciprocal_outcome F s n X ≡ reciprocal_outcome F s' n X
+  reciprocal_by_words n X e = Depends.reciprocal_same F s s' l m n X (λ h. e)
 
-  pub reciprocal_by_lower_word : (n X : ℕ) → j k n X + 1 ≡ 2 ^ k → word_of k s (j k n X) ≡ word_of k s' (j k n X) → reciprocal_outcome k s n X ≡ reciprocal_outcome k s' n X
+  pub reciprocal_by_lower_word : (n X : ℕ) → word_count F ≤ j (precision_of F) n X + 1 → word_of F s (j (precision_of F) n X) ≡ word_of F s' (j (precision_of F) n X) → reciprocal_outcome F s n X ≡ reciprocal_outcome F s' n X
   reciprocal_by_lower_word n X last e = reciprocal_by_words n X e (λ h. absurd (omega (arith, h, last)))
 
 -- The reciprocal reads both words, whatever f is: a wrong one is named, the lower first.
-module _ (k : ℕ) (s : List ℕ) (n X : ℕ) (p : IsPrecision k) (l : IsLongEnough k s) (q : IsFractionCount n) (o : IsNormalised n X) where
-  pub lower_word_named : (IsRightAt k s (j k n X) → ⊥) → reciprocal_outcome k s n X ≡ record { number = 6; place = j k n X; value = 0 }
-  lower_word_named = Reciprocals.lower_named k n X s p l q o
+module _ (F : Format) (s : List ℕ) (n X : ℕ) (p : IsPrecision (precision_of F)) (l : IsLongEnough F s) (q : IsFractionCount n) (o : IsNormalised n X) where
+  pub lower_word_named : (IsRightAt F s (j (precision_of F) n X) → ⊥) → reciprocal_outcome F s n X ≡ record { number = 6; place = j (precision_of F) n X; value = 0 }
+  lower_word_named = Reciprocals.lower_named F s n X p l q o
 
-  pub upper_word_named : IsRightAt k s (j k n X) → j k n X + 1 < 2 ^ k → (IsRightAt k s (j k n X + 1) → ⊥) → reciprocal_outcome k s n X ≡ record { number = 6; place = j k n X + 1; value = 0 }
-  upper_word_named = Reciprocals.upper_named k n X s p l q o
+  pub upper_word_named : IsRightAt F s (j (precision_of F) n X) → j (precision_of F) n X + 1 < word_count F → (IsRightAt F s (j (precision_of F) n X + 1) → ⊥) → reciprocal_outcome F s n X ≡ record { number = 6; place = j (precision_of F) n X + 1; value = 0 }
+  upper_word_named = Reciprocals.upper_named F s n X p l q o
 
   -- also when f is 0 and R does not depend on node j + 1
-  pub upper_word_named_at_0 : f k n X ≡ 0 → IsRightAt k s (j k n X) → j k n X + 1 < 2 ^ k → (IsRightAt k s (j k n X + 1) → ⊥) → reciprocal_outcome k s n X ≡ record { number = 6; place = j k n X + 1; value = 0 }
+  pub upper_word_named_at_0 : f (precision_of F) n X ≡ 0 → IsRightAt F s (j (precision_of F) n X) → j (precision_of F) n X + 1 < word_count F → (IsRightAt F s (j (precision_of F) n X + 1) → ⊥) → reciprocal_outcome F s n X ≡ record { number = 6; place = j (precision_of F) n X + 1; value = 0 }
   upper_word_named_at_0 e = upper_word_named
 
--- The word at j of any bytes, whoever wrote them: a number of 2k + 2 bits, and bit b of it is bit j × (2k + 2) + b of the buffer, the most
+-- The word at j of any bytes, whoever wrote them: a number of w bits, and bit b of it is bit j × w + b of the buffer, the most
 -- significant bit of a word and of a byte being bit 0.
-module _ (k : ℕ) (s : List ℕ) (j : ℕ) where
-  pub word_below : word_of k s j < 2 ^ (2 * k + 2)
-  word_below = word_lt (2 * k + 2) s j
+module _ (F : Format) (s : List ℕ) (j : ℕ) where
+  pub word_below : word_of F s j < 2 ^ word_width F
+  word_below = word_lt (word_width F) s j
 
-  pub word_bit : Bytes s → (b : ℕ) → b < 2 * k + 2 → bit_of_word (2 * k + 2) (word_of k s j) b ≡ bit_at s (j * (2 * k + 2) + b)
-  word_bit bytes b = bit-of-word (2 * k + 2) s j b bytes
+  pub word_bit : Bytes s → (b : ℕ) → b < word_width F → bit_of_word (word_width F) (word_of F s j) b ≡ bit_at s (j * word_width F + b)
+  word_bit bytes b = bit-of-word (word_width F) s j b bytes
 
 -- The word of node j stands in its own bytes.
-pub word_by_its_bytes : (k : ℕ) (s s' : List ℕ) (j : ℕ) → ((i : ℕ) → j * (2 * k + 2) / 8 ≤ i → i ≤ (j * (2 * k + 2) + (2 * k + 2) - 1) / 8 → get_or s i 0 ≡ get_or s' i 0) → word_of k s j ≡ word_of k s' j
-word_by_its_bytes k s s' j = Depends.word_same k s s' j
+pub word_by_its_bytes : (F : Format) (s s' : List ℕ) (j : ℕ) → ((i : ℕ) → j * word_width F / 8 ≤ i → i ≤ (j * word_width F + word_width F - 1) / 8 → get_or s i 0 ≡ get_or s' i 0) → word_of F s j ≡ word_of F s' j
+word_by_its_bytes F s s' j = Depends.word_same F s s' j
 
 -- A node, the reciprocal and the bytes of a word do not depend on the tail: two buffers with the same image at their front get the same
 -- answers, whatever follows it and however long they are. So does the check where a word is wrong.
-module _ (k : ℕ) (s s' : List ℕ) (p : IsPrecision k) (l : IsLongEnough k s) (m : IsLongEnough k s') (e : take (image_length k) s ≡ take (image_length k) s') where
-  pub check_by_image : (j : ℕ) → j < 2 ^ k → (IsRightAt k s j → ⊥) → check_outcome k s ≡ check_outcome k s'
-  check_by_image = Depends.front_check k s s' p l m e
+module _ (F : Format) (s s' : List ℕ) (p : IsPrecision (precision_of F)) (l : IsLongEnough F s) (m : IsLongEnough F s') (e : take (image_length F) s ≡ take (image_length F) s') where
+  pub check_by_image : (j : ℕ) → j < word_count F → (IsRightAt F s j → ⊥) → check_outcome F s ≡ check_outcome F s'
+  check_by_image = Depends.front_check F s s' p l m e
 
-  pub node_by_image : (j : ℕ) → node_outcome k s j ≡ node_outcome k s' j
-  node_by_image = Depends.front_node k s s' p l m e
+  pub node_by_image : (j : ℕ) → node_outcome F s j ≡ node_outcome F s' j
+  node_by_image = Depends.front_node F s s' p l m e
 
-  pub reciprocal_by_image : (n X : ℕ) → reciprocal_outcome k s n X ≡ reciprocal_outcome k s' n X
-  reciprocal_by_image = Depends.front_reciprocal k s s' p l m e
+  pub reciprocal_by_image : (n X : ℕ) → reciprocal_outcome F s n X ≡ reciprocal_outcome F s' n X
+  reciprocal_by_image = Depends.front_reciprocal F s s' p l m e
 
-  pub part_by_image : (j : ℕ) → shown_part k s j ≡ shown_part k s' j
-  part_by_image = Depends.front_part k s s' p l m e
+  pub part_by_image : (j : ℕ) → shown_part F s j ≡ shown_part F s' j
+  part_by_image = Depends.front_part F s s' p l m e
 
-  pub part_place_by_image : (j : ℕ) → shown_from k s j ≡ shown_from k s' j
-  part_place_by_image = Depends.front_place k s s' p l m e
+  pub part_place_by_image : (j : ℕ) → shown_from F s j ≡ shown_from F s' j
+  part_place_by_image = Depends.front_place F s s' p l m e
 
--- A zero word means 2^(2k+3) at node 0. At any other node it is wrong.
+-- Of the bits of a buffer these answers depend on those of its words alone: two buffers that agree there get the same answers, whatever fills the image's
+-- last byte and whatever stands behind it. So does the check where a word is wrong.
+module _ (F : Format) (s s' : List ℕ) (b : Bytes s) (b' : Bytes s') (l : IsLongEnough F s) (m : IsLongEnough F s') (e : (i : ℕ) → i < word_count F * word_width F → bit_at s i ≡ bit_at s' i) where
+  pub node_by_bits : (j : ℕ) → node_outcome F s j ≡ node_outcome F s' j
+  node_by_bits j = Depends.node_same F s s' l m j (same_words F s s' b b' e j)
+
+  pub reciprocal_by_bits : (n X : ℕ) → reciprocal_outcome F s n X ≡ reciprocal_outcome F s' n X
+  reciprocal_by_bits n X =
+      Depends.reciprocal_same F s s' l m n X (same_words F s s' b b' e (j (precision_of F) n X)) (same_words F s s' b b' e (j (precision_of F) n X + 1))
+
+  pub check_by_bits : (j : ℕ) → j < word_count F → (IsRightAt F s j → ⊥) → check_outcome F s ≡ check_outcome F s'
+  check_by_bits j h f = Depends.check_same F s s' l m j h f (same_words F s s' b b' e)
+
+-- In plain words a zero word means 2^(2k+3) at node 0, and at any other node it is wrong. In full words it is wrong at every node.
 module _ (k : ℕ) (s : List ℕ) where
-  pub zero_word_first : IsPrecision k → IsLongEnough k s → (word_of k s 0 ≡ 0) ↔ (node_outcome k s 0 ≡ served (2 ^ (2 * k + 3)))
+  pub zero_word_first : IsPrecision k → IsLongEnough (plain_of k) s → (word_of (plain_of k) s 0 ≡ 0) ↔ (node_outcome (plain_of k) s 0 ≡ served (2 ^ (2 * k + 3)))
   zero_word_first = Nodes.zero_node k s
 
-  pub zero_word_wrong : (j : ℕ) → 0 < j → j < 2 ^ k → word_of k s j ≡ 0 → IsRightAt k s j → ⊥
+  pub zero_word_wrong : (j : ℕ) → 0 < j → j < 2 ^ k → word_of (plain_of k) s j ≡ 0 → IsRightAt (plain_of k) s j → ⊥
   zero_word_wrong = Nodes.zero_wrong k s
 
--- What the calls for an image length and for a node of precision 8 give, each read from a constant list: the formula, and 0 where there is none.
-module _ (k : ℕ) where
-  pub length_listed : IsPrecision k → length_or_0 k ≡ 2 ^ k * (2 * k + 2) / 8
-  length_listed p = rw (range_in k p.0 p.1) (length_eighth k p.0)
+  pub zero_full_word_wrong : (j : ℕ) → j ≤ 2 ^ k → word_of (full_of k) s j ≡ 0 → IsRightAt (full_of k) s j → ⊥
+  zero_full_word_wrong = Nodes.zero_full k s
 
-  pub no_length : (IsPrecision k → ⊥) → length_or_0 k ≡ 0
-  no_length f = rw (failed (in_range k) ((no_precision k).1 f))
+-- What the calls for an image length and for a node of precision 8 give: the length and the node, and 0 where there is none.
+module _ (F : Format) where
+  pub length_listed : IsPrecision (precision_of F) → length_or_0 F ≡ image_length F
+  length_listed p = rw (range_in (precision_of F) p.0 p.1)
+
+  pub no_length : (IsPrecision (precision_of F) → ⊥) → length_or_0 F ≡ 0
+  no_length f = rw (failed (in_range (precision_of F)) ((no_precision (precision_of F)).1 f))
 
 module _ (j : ℕ) where
   pub node_8_listed : j ≤ 256 → node_or_0 8 j ≡ node 8 j

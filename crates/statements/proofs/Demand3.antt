@@ -7,9 +7,11 @@
 --    one is given: reciprocal_serves, in Demand1; from every built image: built_gives, in Demand2.
 -- 3. Whatever bytes the image holds: s is any list of numbers in given_is_R, given_low and given_high, and nothing is assumed of it.
 -- 4. Wherever the image came from: these three ask for the number 0 and for nothing else, so neither that the image was built here nor that it
---    passed the check. A bound table takes any image too and answers as the plain call does: bound-reciprocal, in Demand1.
+--    passed the check. A bound table takes any image too and answers as the call on an image does: bound-reciprocal, in Demand1. Nor does the form of its
+--    words count: what is given from a plain image and from a full one is the same, given_in_both (from built images so is all of the answer:
+--    forms_agree, in Demand2).
 -- 5. Bits that are written to the right of X do not change R where X has 2k + 3 fraction bits or more: longer_reciprocal. While there are at
---    most 63 fraction bits in all, they do not change the answer from the same image, in one equation for number, place and value:
+--    most 63 fraction bits in all, they do not change the answer from the same image, in either form, in one equation for number, place and value:
 --    longer_answer. Where X has fewer than 2k + 3, the same holds where those that come to stand among the first 2k + 3 are zero, of the answer
 --    from n = 1 on: padded_reciprocal, padded_answer. Zeros alone change R at no n, and from n = 1 up to 63 in all not the answer either:
 --    zeros_reciprocal, zeros_answer. A written bit that is not zero can change R: written_bit_counts. All but the last are of every X, normalised or not.
@@ -18,11 +20,15 @@
 -- n, the greatest the lower at the latest from n = 2k + 3 on: reciprocal_of_least, reciprocal_of_greatest. The sizes of document 002's Lemma 1, and what fits
 -- 64 bits: node_difference, fraction_below, product_below, first_product_fits, second_product_fits, product_sum_fits.
 --
--- `reciprocal k n X` is R (Demand2 has its steps), and `reciprocal_outcome k s n X` is the answer of the call.
-use mathlib.Core.Path.{◌≡◌, refl}
+-- `reciprocal k n X` is R (Demand2 has its steps), which no form has a part in, and `reciprocal_outcome F s n X` is the answer of the call for a format F;
+-- `asked f k` is the format of precision k and form f.
+use mathlib.Core.Path.{◌≡◌, refl, sym, ◌∙◌}
 use mathlib.Core.List.{List}
 use Prim.Native.Nat.{ℕ, ◌+◌, ◌-◌, ◌*◌, ◌^◌, ◌≤◌, ◌<◌}
 use native.Mathlib.Omega.{arith}
+use Rattle.format.specs.Format.{precision_of, asked, plain_of, full_of}
+use Rattle.format.specs.declared.Form.{Form}
+use Rattle.format.specs.declared.Format.{Format}
 use Rattle.units.specs.Units.{ulps_in_one}
 use Rattle.nodes.specs.Nodes.{node}
 use Rattle.operand.proofs.Laws.{all_behind, zeros_before}
@@ -60,17 +66,22 @@ module _ (k n : ℕ) where
   pub reciprocal_of_one : reciprocal k n (2 ^ n) ≡ ulps_in_one k
   reciprocal_of_one = Reciprocals.reciprocal_of_least k n (2 ^ n) refl
 
--- Given means right: nothing is assumed of the image s, nor of k, n and X, but that a reciprocal is given.
-module _ (k : ℕ) (s : List ℕ) (n X : ℕ) (given : (reciprocal_outcome k s n X).number ≡ 0) where
-  pub given_is_R : (reciprocal_outcome k s n X).value ≡ reciprocal k n X
-  given_is_R = Reciprocals.given_right k n X s given
+-- Given means right: nothing is assumed of the image s, nor of the format F, of n and of X, but that a reciprocal is given.
+module _ (F : Format) (s : List ℕ) (n X : ℕ) (given : (reciprocal_outcome F s n X).number ≡ 0) where
+  pub given_is_R : (reciprocal_outcome F s n X).value ≡ reciprocal (precision_of F) n X
+  given_is_R = Reciprocals.given_right F s n X given
 
   -- and the bound holds of it
-  pub given_low : 2 ^ (n + 2 * k + 1) < (reciprocal_outcome k s n X).value * X + X
-  given_low = Reciprocals.given_has k n X s given (λ R. 2 ^ (n + 2 * k + 1) < R * X + X) (bound_low k n X)
+  pub given_low : 2 ^ (n + 2 * precision_of F + 1) < (reciprocal_outcome F s n X).value * X + X
+  given_low = Reciprocals.given_has F s n X given (λ R. 2 ^ (n + 2 * precision_of F + 1) < R * X + X) (bound_low (precision_of F) n X)
 
-  pub given_high : (reciprocal_outcome k s n X).value * X < 2 ^ (n + 2 * k + 1) + X
-  given_high = Reciprocals.given_has k n X s given (λ R. R * X < 2 ^ (n + 2 * k + 1) + X) (bound_high k n X)
+  pub given_high : (reciprocal_outcome F s n X).value * X < 2 ^ (n + 2 * precision_of F + 1) + X
+  given_high = Reciprocals.given_has F s n X given (λ R. R * X < 2 ^ (n + 2 * precision_of F + 1) + X) (bound_high (precision_of F) n X)
+
+-- What a plain image and a full one give for an operand is the same, whoever wrote them.
+pub given_in_both : (k : ℕ) (s s' : List ℕ) (n X : ℕ) → (reciprocal_outcome (plain_of k) s n X).number ≡ 0 → (reciprocal_outcome (full_of k) s' n X).number ≡ 0
+    → (reciprocal_outcome (plain_of k) s n X).value ≡ (reciprocal_outcome (full_of k) s' n X).value
+given_in_both k s s' n X e d = given_is_R (plain_of k) s n X e ∙ sym (given_is_R (full_of k) s' n X d)
 
 -- Bits to the right: m bits b written to the right of any X, normalised or not, that has 2k + 3 fraction bits or more.
 module _ (k n m X b : ℕ) (enough : 2 * k + 3 ≤ n) (bits : b < 2 ^ m) where
@@ -79,7 +90,7 @@ module _ (k n m X b : ℕ) (enough : 2 * k + 3 ≤ n) (bits : b < 2 ^ m) where
   longer_reciprocal = Longer.reciprocal_same k n m X b (all_behind (2 * k + 3) n m b enough bits)
 
   -- nor, up to 63 in all, the answer: number, place and value from the same image, whatever it holds and however long it is
-  pub longer_answer : n + m ≤ 63 → (s : List ℕ) → reciprocal_outcome k s (n + m) (X * 2 ^ m + b) ≡ reciprocal_outcome k s n X
+  pub longer_answer : n + m ≤ 63 → (f : Form) (s : List ℕ) → reciprocal_outcome (asked f k) s (n + m) (X * 2 ^ m + b) ≡ reciprocal_outcome (asked f k) s n X
   longer_answer = Longer.outcome_same k n m X b (all_behind (2 * k + 3) n m b enough bits) (omega (arith, enough))
 
 -- Where X has fewer, so that some of the m bits come to stand among the first 2k + 3 fraction bits, the same holds where those are zero: b is
@@ -88,7 +99,7 @@ module _ (k n m X b : ℕ) (few : n ≤ 2 * k + 3) (zeros : b < 2 ^ (n + m - (2 
   pub padded_reciprocal : reciprocal k (n + m) (X * 2 ^ m + b) ≡ reciprocal k n X
   padded_reciprocal = Longer.reciprocal_same k n m X b (zeros_before (2 * k + 3) n m b few zeros)
 
-  pub padded_answer : 1 ≤ n → n + m ≤ 63 → (s : List ℕ) → reciprocal_outcome k s (n + m) (X * 2 ^ m + b) ≡ reciprocal_outcome k s n X
+  pub padded_answer : 1 ≤ n → n + m ≤ 63 → (f : Form) (s : List ℕ) → reciprocal_outcome (asked f k) s (n + m) (X * 2 ^ m + b) ≡ reciprocal_outcome (asked f k) s n X
   padded_answer = Longer.outcome_same k n m X b (zeros_before (2 * k + 3) n m b few zeros)
 
 -- Zeros do not change R at any n, nor the answer from n = 1 up to 63 fraction bits in all: a caller may pad an operand or leave it as it is.
@@ -96,7 +107,7 @@ module _ (k n m X : ℕ) where
   pub zeros_reciprocal : reciprocal k (n + m) (X * 2 ^ m) ≡ reciprocal k n X
   zeros_reciprocal = Longer.reciprocal_zeros k n m X
 
-  pub zeros_answer : 1 ≤ n → n + m ≤ 63 → (s : List ℕ) → reciprocal_outcome k s (n + m) (X * 2 ^ m) ≡ reciprocal_outcome k s n X
+  pub zeros_answer : 1 ≤ n → n + m ≤ 63 → (f : Form) (s : List ℕ) → reciprocal_outcome (asked f k) s (n + m) (X * 2 ^ m) ≡ reciprocal_outcome (asked f k) s n X
   zeros_answer = Longer.outcome_zeros k n m X
 
 -- A written bit that is not zero can change R: at k = 2, where t has 7 fraction bits, X = 64 with 6 of them has another R than 129 with 7.

@@ -1,5 +1,5 @@
--- The set examples of document 01 that are marked P, that of document 02 for Q-2, ours for Q-1 and Q-2, and the printed table hold of the
--- definitions that the contracts cite: one statement for all tables, by computation.
+-- The set examples of document 01 that are marked P, those of document 02 for Q-2 and Q-7, ours for Q-1, Q-2 and Q-7, and the printed table hold of
+-- the definitions that the contracts cite: one statement for all tables, by computation.
 -- Assumes nothing.
 use mathlib.Core.Path.{refl}
 use Rattle.quotient.specs.Quotient.{rounded_up}
@@ -8,12 +8,17 @@ use Rattle.bools.specs.Lowest.{lowest}
 use Rattle.decimal.specs.Decimal.{digits, decimal}
 use Rattle.lines.specs.Lines.{line_reading, field}
 use Rattle.table_text.specs.TableText.{precision_of, line, lines, header, table_of, table_text}
-use Rattle.statements.specs.Examples.{image_examples, ImageHolds, rom_examples, RomHolds, fault_examples, FaultHolds, reciprocal_examples, ReciprocalHolds, refused_examples, RefusedHolds, text_examples, TextHolds, Each, ExamplesHold}
+use Rattle.statements.specs.Examples.{length_examples, LengthHolds, image_examples, ImageHolds, rom_examples, RomHolds, fault_examples, FaultHolds, reciprocal_examples, ReciprocalHolds, refused_examples, RefusedHolds, text_examples, TextHolds, Each, ExamplesHold}
 
 -- a row and those after it
 infixr 4 ◌also◌
 ◌also◌ : {A B : Type 0} → A → B → A × B
 a also b = (a, b)
+
+lengths_hold : Each LengthHolds length_examples
+lengths_hold =
+    (refl, refl) also (refl, refl) also (refl, refl) also (refl, refl) also (refl, refl) also (refl, refl)
+    also (refl, refl) also (refl, refl) also (refl, refl) also (refl, refl) also (refl, refl) also (refl, refl) also tt
 
 images_hold : Each ImageHolds image_examples
 unfolding rounded_up word_at field_at lowest
@@ -21,15 +26,20 @@ images_hold =
     record { answered = refl; built = refl; read = refl; passes = refl }
     also record { answered = refl; built = refl; read = refl; passes = refl }
     also record { answered = refl; built = refl; read = refl; passes = refl }
+    also record { answered = refl; built = refl; read = refl; passes = refl }
+    also record { answered = refl; built = refl; read = refl; passes = refl }
     also tt
 
 roms_hold : Each RomHolds rom_examples
 unfolding rounded_up word_at field_at lowest
-roms_hold = record { answered = refl; built = refl; passes = refl } also tt
+roms_hold =
+    record { answered = refl; built = refl; passes = refl }
+    also record { answered = refl; built = refl; passes = refl }
+    also tt
 
 faults_hold : Each FaultHolds fault_examples
 unfolding rounded_up word_at field_at lowest
-faults_hold = refl also refl also tt
+faults_hold = refl also refl also refl also refl also refl also refl also refl also tt
 
 reciprocals_hold : Each ReciprocalHolds reciprocal_examples
 unfolding rounded_up word_at field_at
@@ -45,15 +55,18 @@ reciprocals_hold =
     also record { is_R = refl; given = refl; is_P = tt }
     also record { is_R = refl; given = refl; is_P = tt }
     also record { is_R = refl; given = refl; is_P = tt }
+    also record { is_R = refl; given = refl; is_P = tt }
+    also record { is_R = refl; given = refl; is_P = tt }
+    also record { is_R = refl; given = refl; is_P = tt }
     also tt
 
 refusals_hold : Each RefusedHolds refused_examples
 unfolding rounded_up word_at field_at
-refusals_hold = refl also refl also refl also refl also refl also tt
+refusals_hold = refl also refl also refl also refl also refl also refl also refl also tt
 
 texts_hold : Each TextHolds text_examples
 unfolding precision_of line_reading digits decimal rounded_up field line lines header table_of table_text
 texts_hold = refl also refl also refl also tt
 
 pub examples_hold : ExamplesHold
-examples_hold = record { images = images_hold; roms = roms_hold; faults = faults_hold; reciprocals = reciprocals_hold; refusals = refusals_hold; texts = texts_hold }
+examples_hold = record { lengths = lengths_hold; images = images_hold; roms = roms_hold; faults = faults_hold; reciprocals = reciprocals_hold; refusals = refusals_hold; texts = texts_hold }

@@ -11,14 +11,15 @@ use lib.Dec.{T, ltb, ltb→lt, lt→ltb, nltb→le, not_T}
 use lib.Arith.{le→nltb}
 use borrow.Author.Tests.{lt-ltb}
 use Rattle.bools.proofs.Bools.{clash, below_or_not}
-use Rattle.packing.specs.Packing.{Bytes}
-use Rattle.precision.specs.Precision.{in_range, word_count}
+use Rattle.precision.specs.Precision.{in_range}
 use Rattle.precision.proofs.Range.{in-range, range_in}
-use Rattle.layout.specs.Layout.{is_wrong, first_wrong, first_past}
+use Rattle.format.specs.Format.{precision_of, word_count}
+use Rattle.format.specs.declared.Format.{Format}
+use Rattle.format.proofs.Laws.{count_most}
+use Rattle.tail.proofs.Bits.{before_first, at_first}
+use Rattle.layout.specs.Layout.{end_of, is_wrong, first_wrong, first_past}
 use Rattle.layout.proofs.Laws.{not_wrong, right_not_wrong, all_right, wrong_there, right_before}
-use Rattle.layout.proofs.Rom.{past_zero, past_there, past_none}
-use Rattle.image.specs.Image.{plain}
-use Rattle.image.proofs.Laws.{whole_bytes}
+use Rattle.image.specs.Image.{table_of}
 use Rattle.operand.specs.Operand.{is_fraction_count, is_normalised}
 use Rattle.operand.proofs.Laws.{count-in, in_count, normalised_in, in_normalised}
 use Rattle.statements.specs.Terms.{IsPrecision, IsRightAt, IsSetPast, IsTailZero, IsFractionCount, IsNormalised}
@@ -101,92 +102,101 @@ is_below a b = (ltb→lt a b, lt→ltb a b)
 pub not_below : (a b : ℕ) → T (not (ltb a b)) ↔ (b ≤ a)
 not_below a b = (nltb→le a b, le→nltb a b)
 
+-- a node that has a word is in the table
+pub in_table : (F : Format) (j : ℕ) → j < word_count F → j ≤ 2 ^ precision_of F
+in_table F j h = omega (arith, h, count_most F.form (precision_of F))
+
 -- the word of node j is read and is wrong
-pub wrong_word : (k : ℕ) (s : List ℕ) (j : ℕ) → T (ltb j (2 ^ k) && is_wrong (plain k) s j) ↔ ((j < 2 ^ k) × (IsRightAt k s j → ⊥))
-wrong_word k s j = (to (ltb j (2 ^ k)) (is_wrong (plain k) s j) refl refl, from)
+pub wrong_word : (F : Format) (s : List ℕ) (j : ℕ) → T (ltb j (word_count F) && is_wrong (table_of F) s j) ↔ ((j < word_count F) × (IsRightAt F s j → ⊥))
+wrong_word F s j = (to (ltb j (word_count F)) (is_wrong (table_of F) s j) refl refl, from)
   where
-    to : (a b : Bool) → ltb j (2 ^ k) ≡ a → is_wrong (plain k) s j ≡ b → T (a && b) → (j < 2 ^ k) × (IsRightAt k s j → ⊥)
-    to true true e d t = (ltb→lt j (2 ^ k) (passes (ltb j (2 ^ k)) e), λ r. clash d (right_not_wrong (plain k) s j r))
+    to : (a b : Bool) → ltb j (word_count F) ≡ a → is_wrong (table_of F) s j ≡ b → T (a && b) → (j < word_count F) × (IsRightAt F s j → ⊥)
+    to true true e d t = (ltb→lt j (word_count F) (passes (ltb j (word_count F)) e), λ r. clash d (right_not_wrong (table_of F) s j r))
     to true false e d t = absurd t
     to false b e d t = absurd t
 
-    by : (b : Bool) → is_wrong (plain k) s j ≡ b → (IsRightAt k s j → ⊥) → T b
+    by : (b : Bool) → is_wrong (table_of F) s j ≡ b → (IsRightAt F s j → ⊥) → T b
     by true e f = tt
-    by false e f = f (not_wrong (plain k) s j e)
+    by false e f = f (not_wrong (table_of F) s j e)
 
-    from : (j < 2 ^ k) × (IsRightAt k s j → ⊥) → T (ltb j (2 ^ k) && is_wrong (plain k) s j)
-    from t = rw (lt-ltb j (2 ^ k) t.0) (by (is_wrong (plain k) s j) refl t.1)
+    from : (j < word_count F) × (IsRightAt F s j → ⊥) → T (ltb j (word_count F) && is_wrong (table_of F) s j)
+    from t = rw (lt-ltb j (word_count F) t.0) (by (is_wrong (table_of F) s j) refl t.1)
 
-pub no_wrong_word : (k : ℕ) (s : List ℕ) (j : ℕ) → T (not (ltb j (2 ^ k) && is_wrong (plain k) s j)) ↔ (j < 2 ^ k → IsRightAt k s j)
-no_wrong_word k s j = (to, from)
+pub no_wrong_word : (F : Format) (s : List ℕ) (j : ℕ) → T (not (ltb j (word_count F) && is_wrong (table_of F) s j)) ↔ (j < word_count F → IsRightAt F s j)
+no_wrong_word F s j = (to, from)
   where
-    by : (b : Bool) → is_wrong (plain k) s j ≡ b → T (not b) → IsRightAt k s j
+    by : (b : Bool) → is_wrong (table_of F) s j ≡ b → T (not b) → IsRightAt F s j
     by true e t = absurd t
-    by false e t = not_wrong (plain k) s j e
+    by false e t = not_wrong (table_of F) s j e
 
-    to : T (not (ltb j (2 ^ k) && is_wrong (plain k) s j)) → j < 2 ^ k → IsRightAt k s j
-    to t h = by (is_wrong (plain k) s j) refl (rw (lt-ltb j (2 ^ k) h) at t)
+    to : T (not (ltb j (word_count F) && is_wrong (table_of F) s j)) → j < word_count F → IsRightAt F s j
+    to t h = by (is_wrong (table_of F) s j) refl (rw (lt-ltb j (word_count F) h) at t)
 
-    from : (j < 2 ^ k → IsRightAt k s j) → T (not (ltb j (2 ^ k) && is_wrong (plain k) s j))
-    from f = not_T (ltb j (2 ^ k) && is_wrong (plain k) s j) (λ t. let w = (wrong_word k s j).0 t in w.1 (f w.0))
+    from : (j < word_count F → IsRightAt F s j) → T (not (ltb j (word_count F) && is_wrong (table_of F) s j))
+    from f = not_T (ltb j (word_count F) && is_wrong (table_of F) s j) (λ t. let w = (wrong_word F s j).0 t in w.1 (f w.0))
 
 -- the same as equations
-pub read_wrong : (k : ℕ) (s : List ℕ) (j : ℕ) → j < 2 ^ k → (IsRightAt k s j → ⊥) → (ltb j (2 ^ k) && is_wrong (plain k) s j) ≡ true
-read_wrong k s j h f = passed (ltb j (2 ^ k) && is_wrong (plain k) s j) ((wrong_word k s j).1 (h, f))
+pub read_wrong : (F : Format) (s : List ℕ) (j : ℕ) → j < word_count F → (IsRightAt F s j → ⊥) → (ltb j (word_count F) && is_wrong (table_of F) s j) ≡ true
+read_wrong F s j h f = passed (ltb j (word_count F) && is_wrong (table_of F) s j) ((wrong_word F s j).1 (h, f))
 
-pub read_right : (k : ℕ) (s : List ℕ) (j : ℕ) → (j < 2 ^ k → IsRightAt k s j) → (ltb j (2 ^ k) && is_wrong (plain k) s j) ≡ false
-read_right k s j f = failed (ltb j (2 ^ k) && is_wrong (plain k) s j) ((no_wrong_word k s j).1 f)
+pub read_right : (F : Format) (s : List ℕ) (j : ℕ) → (j < word_count F → IsRightAt F s j) → (ltb j (word_count F) && is_wrong (table_of F) s j) ≡ false
+read_right F s j f = failed (ltb j (word_count F) && is_wrong (table_of F) s j) ((no_wrong_word F s j).1 f)
 
 -- some word of the image is wrong, and none is
-pub some_wrong : (k : ℕ) (s : List ℕ) → T (ltb (first_wrong (plain k) s) (word_count k)) ↔ ((j : ℕ) × (j < 2 ^ k) × (IsRightAt k s j → ⊥))
-some_wrong k s = (to, from)
+pub some_wrong : (F : Format) (s : List ℕ) → T (ltb (first_wrong (table_of F) s) (word_count F)) ↔ ((j : ℕ) × (j < word_count F) × (IsRightAt F s j → ⊥))
+some_wrong F s = (to, from)
   where
-    to : T (ltb (first_wrong (plain k) s) (word_count k)) → (j : ℕ) × (j < 2 ^ k) × (IsRightAt k s j → ⊥)
+    to : T (ltb (first_wrong (table_of F) s) (word_count F)) → (j : ℕ) × (j < word_count F) × (IsRightAt F s j → ⊥)
     to t =
-        let h = ltb→lt (first_wrong (plain k) s) (word_count k) t in
-        (first_wrong (plain k) s, h, wrong_there (plain k) s h)
+        let h = ltb→lt (first_wrong (table_of F) s) (word_count F) t in
+        (first_wrong (table_of F) s, h, wrong_there (table_of F) s h)
 
-    from : (j : ℕ) × (j < 2 ^ k) × (IsRightAt k s j → ⊥) → T (ltb (first_wrong (plain k) s) (word_count k))
+    from : (j : ℕ) × (j < word_count F) × (IsRightAt F s j → ⊥) → T (ltb (first_wrong (table_of F) s) (word_count F))
     from w =
-        not_not (ltb (first_wrong (plain k) s) (word_count k))
-        (λ t. w.2 (right_before (plain k) s w.0 (omega (arith, w.1, nltb→le (first_wrong (plain k) s) (word_count k) t))))
+        not_not (ltb (first_wrong (table_of F) s) (word_count F))
+        (λ t. w.2 (right_before (table_of F) s w.0 (omega (arith, w.1, nltb→le (first_wrong (table_of F) s) (word_count F) t))))
       where
         not_not : (b : Bool) → (T (not b) → ⊥) → T b
         not_not true f = tt
         not_not false f = absurd (f tt)
 
-pub none_wrong : (k : ℕ) (s : List ℕ) → T (not (ltb (first_wrong (plain k) s) (word_count k))) ↔ ((j : ℕ) → j < 2 ^ k → IsRightAt k s j)
-none_wrong k s = (to, from)
+pub none_wrong : (F : Format) (s : List ℕ) → T (not (ltb (first_wrong (table_of F) s) (word_count F))) ↔ ((j : ℕ) → j < word_count F → IsRightAt F s j)
+none_wrong F s = (to, from)
   where
-    to : T (not (ltb (first_wrong (plain k) s) (word_count k))) → (j : ℕ) → j < 2 ^ k → IsRightAt k s j
-    to t j h = right_before (plain k) s j (omega (arith, h, nltb→le (first_wrong (plain k) s) (word_count k) t))
+    to : T (not (ltb (first_wrong (table_of F) s) (word_count F))) → (j : ℕ) → j < word_count F → IsRightAt F s j
+    to t j h = right_before (table_of F) s j (omega (arith, h, nltb→le (first_wrong (table_of F) s) (word_count F) t))
 
-    from : ((j : ℕ) → j < 2 ^ k → IsRightAt k s j) → T (not (ltb (first_wrong (plain k) s) (word_count k)))
-    from f = le→nltb (first_wrong (plain k) s) (word_count k) (omega (arith, all_right (plain k) s f))
+    from : ((j : ℕ) → j < word_count F → IsRightAt F s j) → T (not (ltb (first_wrong (table_of F) s) (word_count F)))
+    from f = le→nltb (first_wrong (table_of F) s) (word_count F) (omega (arith, all_right (table_of F) s f))
 
--- some byte of the tail is set, and none is
-module _ (k : ℕ) (s : List ℕ) (p : IsPrecision k) (bytes : Bytes s) where
-  pub some_past : T (ltb (first_past (plain k) s) (length s)) ↔ ((i : ℕ) × IsSetPast k s i)
+-- where no bit behind the last word is one, the lowest byte with such a one is past the last
+pub zero_past : (F : Format) (s : List ℕ) → IsTailZero F s → length s ≤ first_past (table_of F) s
+zero_past F s z =
+    ⊎_elim (λ l. let b = at_first (end_of (table_of F)) s l in absurd (omega (arith, b.3, z b.0 b.1 (omega (arith, l, b.2)))))
+    (λ g. g) (below_or_not (first_past (table_of F) s) (length s))
+
+-- some byte has a one behind the last word, and none has
+module _ (F : Format) (s : List ℕ) where
+  pub some_past : T (ltb (first_past (table_of F) s) (length s)) ↔ ((i : ℕ) × IsSetPast F s i)
   some_past = (to, from)
     where
-      to : T (ltb (first_past (plain k) s) (length s)) → (i : ℕ) × IsSetPast k s i
+      to : T (ltb (first_past (table_of F) s) (length s)) → (i : ℕ) × IsSetPast F s i
       to t =
-          let h = ltb→lt (first_past (plain k) s) (length s) t in
-          let there = past_there (plain k) (whole_bytes k p.0) s h in
-          (first_past (plain k) s, (there.0, h, there.1))
+          let h = ltb→lt (first_past (table_of F) s) (length s) t in
+          (first_past (table_of F) s, (h, at_first (end_of (table_of F)) s h))
 
-      from : (i : ℕ) × IsSetPast k s i → T (ltb (first_past (plain k) s) (length s))
+      from : (i : ℕ) × IsSetPast F s i → T (ltb (first_past (table_of F) s) (length s))
       from w =
-          let i = w.1 in
-          lt→ltb (first_past (plain k) s) (length s)
-          (⊎_elim (λ l. l) (λ g. absurd (i.2 (past_zero (plain k) (whole_bytes k p.0) s bytes w.0 i.0 (omega (arith, i.1, g)))))
-          (below_or_not (first_past (plain k) s) (length s)))
+          let b = w.1.1 in
+          lt→ltb (first_past (table_of F) s) (length s)
+          (⊎_elim (λ l. l) (λ g. absurd (omega (arith, b.3, before_first (end_of (table_of F)) s b.0 b.1 (omega (arith, g, b.2, w.1.0)))))
+          (below_or_not (first_past (table_of F) s) (length s)))
 
-  pub none_past : T (not (ltb (first_past (plain k) s) (length s))) ↔ IsTailZero k s
+  pub none_past : T (not (ltb (first_past (table_of F) s) (length s))) ↔ IsTailZero F s
   none_past = (to, from)
     where
-      to : T (not (ltb (first_past (plain k) s) (length s))) → IsTailZero k s
-      to t i h l = past_zero (plain k) (whole_bytes k p.0) s bytes i h (omega (arith, l, nltb→le (first_past (plain k) s) (length s) t))
+      to : T (not (ltb (first_past (table_of F) s) (length s))) → IsTailZero F s
+      to t b h l = before_first (end_of (table_of F)) s b h (omega (arith, l, nltb→le (first_past (table_of F) s) (length s) t))
 
-      from : IsTailZero k s → T (not (ltb (first_past (plain k) s) (length s)))
-      from z = le→nltb (first_past (plain k) s) (length s) (omega (arith, past_none (plain k) (whole_bytes k p.0) s z))
+      from : IsTailZero F s → T (not (ltb (first_past (table_of F) s) (length s)))
+      from z = le→nltb (first_past (table_of F) s) (length s) (zero_past F s z)

@@ -1,6 +1,8 @@
 pub mod Demand1
 pub mod Demand2
 pub mod Demand3
+pub mod Plain
+pub mod Full
 pub mod Printed
 pub mod Examples
 pub mod Iff
@@ -10,6 +12,8 @@ pub mod Longer
 pub mod Sizes
 pub mod Units
 pub mod Nodes
+pub mod Tails
+pub mod Bits
 pub mod Built
 pub mod Depends
 pub mod Parts

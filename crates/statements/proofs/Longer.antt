@@ -6,6 +6,8 @@ use Prim.Native.Nat.{ℕ, ◌+◌, ◌-◌, ◌*◌, ◌^◌, ◌≤◌, ◌<◌
 use native.Mathlib.Nat.{add-zero}
 use native.Mathlib.Omega.{arith}
 use lib.Pow.{pow_pos, pow_mono}
+use Rattle.format.specs.Format.{asked}
+use Rattle.format.specs.declared.Form.{Form}
 use Rattle.quotient.specs.Quotient.{rounded_up}
 use Rattle.operand.specs.Operand.{cut_operand, cut_bits}
 use Rattle.operand.proofs.Laws.{cut_longer, normalised_longer, in_count}
@@ -21,8 +23,8 @@ module _ (k n m X b : ℕ) (h : b < 2 ^ (m - (2 * k + 3 - n))) where
   pub reciprocal_same : reciprocal k (n + m) (X * 2 ^ m + b) ≡ reciprocal k n X
   reciprocal_same = ap (cut_reciprocal k) cut_same
 
-  pub outcome_same : 1 ≤ n → n + m ≤ 63 → (s : List ℕ) → reciprocal_outcome k s (n + m) (X * 2 ^ m + b) ≡ reciprocal_outcome k s n X
-  outcome_same low most s =
+  pub outcome_same : 1 ≤ n → n + m ≤ 63 → (f : Form) (s : List ℕ) → reciprocal_outcome (asked f k) s (n + m) (X * 2 ^ m + b) ≡ reciprocal_outcome (asked f k) s n X
+  outcome_same low most f s =
       let fewer : m - (2 * k + 3 - n) ≤ m = omega arith in
       let bits : b < 2 ^ m = omega (arith, h, pow_mono fewer) in
       rw (in_count (n + m) (omega (arith, low)) most, in_count n low (omega (arith, most)), normalised_longer m X b n bits, cut_same)
@@ -35,8 +37,8 @@ module _ (k n m X : ℕ) where
   pub reciprocal_zeros : reciprocal k (n + m) (X * 2 ^ m) ≡ reciprocal k n X
   reciprocal_zeros = rw (add-zero (X * 2 ^ m)) at (reciprocal_same k n m X 0 none)
 
-  pub outcome_zeros : 1 ≤ n → n + m ≤ 63 → (s : List ℕ) → reciprocal_outcome k s (n + m) (X * 2 ^ m) ≡ reciprocal_outcome k s n X
-  outcome_zeros low most s = rw (add-zero (X * 2 ^ m)) at (outcome_same k n m X 0 none low most s)
+  pub outcome_zeros : 1 ≤ n → n + m ≤ 63 → (f : Form) (s : List ℕ) → reciprocal_outcome (asked f k) s (n + m) (X * 2 ^ m) ≡ reciprocal_outcome (asked f k) s n X
+  outcome_zeros low most f s = rw (add-zero (X * 2 ^ m)) at (outcome_same k n m X 0 none low most f s)
 
 -- a one, by computation
 pub of_64_and_129 : (reciprocal 2 6 64 ≡ 32) × (reciprocal 2 (6 + 1) (64 * 2 ^ 1 + 1) ≡ 31)

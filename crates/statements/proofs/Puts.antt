@@ -1,33 +1,43 @@
--- The words of a precision put one by one.
+-- The words of a format put one by one.
 -- Assumes nothing.
-use mathlib.Core.Path.{◌≡◌}
+use mathlib.Core.Path.{◌≡◌, ap, ◌∙◌}
 use mathlib.Core.List.{List, ◌++◌}
-use Prim.Native.Nat.{ℕ, ◌+◌, ◌*◌, ◌^◌, ◌≤◌, ◌<◌}
+use Prim.Native.Nat.{ℕ, ◌*◌, ◌^◌, ◌≤◌, ◌<◌}
 use native.Mathlib.Nat.{mul-le-mul}
 use native.Mathlib.Omega.{arith}
 use lib.ListN.{drop}
 use lib.Pow.{pow_mono}
-use Rattle.precision.specs.Precision.{image_length}
+use Rattle.format.specs.Format.{precision_of, word_count, word_width, image_length}
+use Rattle.format.specs.declared.Format.{Format}
+use Rattle.format.proofs.Laws.{width_most, count_most}
 use Rattle.packing.specs.Writing.{finish_leaves, writer_before, bytes_before}
 use Rattle.packing.proofs.Written.{place-before, words_finished}
 use Rattle.nodes.specs.Nodes.{node}
+use Rattle.layout.specs.Layout.{Layout, image_of}
 use Rattle.image.specs.Image.{image}
+use Rattle.image.proofs.Laws.{own_layout}
 use Rattle.statements.specs.Terms.{IsPrecision, IsLongEnough}
 
-module _ (k : ℕ) (p : IsPrecision k) where
+module _ (F : Format) (p : IsPrecision (precision_of F)) where
+  abbrev k : ℕ
+  k = precision_of F
+
+  -- a word can be put
+  narrow : word_width F ≤ 32
+  narrow = omega (arith, p.1, width_most F.form k)
+
   -- their bits are far fewer than 2^64
-  few : (j : ℕ) → j ≤ 2 ^ k → j * (2 * k + 2) < 2 ^ 64
-  few j h = omega (arith, mul-le-mul upto width)
+  few : (j : ℕ) → j ≤ word_count F → j * word_width F < 2 ^ 64
+  few j h = omega (arith, mul-le-mul upto narrow)
     where
-      upto : j ≤ 4096
-      upto = omega (arith, pow_mono p.1)
+      upto : j ≤ 4097
+      upto = omega (arith, h, count_most F.form k, pow_mono p.1)
 
-      width : 2 * k + 2 ≤ 26
-      width = omega (arith, p.1)
+  pub place : (j : ℕ) → j ≤ word_count F → (writer_before (word_width F) (node k) j).place ≡ j * word_width F
+  place j h = place-before (word_width F) (node k) j (few j h)
 
-  pub place : (j : ℕ) → j ≤ 2 ^ k → (writer_before (2 * k + 2) (node k) j).place ≡ j * (2 * k + 2)
-  place j h = place-before (2 * k + 2) (node k) j (few j h)
-
-  pub finished : (s : List ℕ) → IsLongEnough k s
-      → finish_leaves (bytes_before (2 * k + 2) (node k) s (2 ^ k)) (writer_before (2 * k + 2) (node k) (2 ^ k)) ≡ image k ++ drop (image_length k) s
-  finished s l = words_finished (2 * k + 2) (node k) s (2 ^ k) (omega (arith, p.1)) (few (2 ^ k) (omega arith)) l
+  pub finished : (s : List ℕ) → IsLongEnough F s
+      → finish_leaves (bytes_before (word_width F) (node k) s (word_count F)) (writer_before (word_width F) (node k) (word_count F)) ≡ image F ++ drop (image_length F) s
+  finished s l =
+      words_finished (word_width F) (node k) s (word_count F) narrow (few (word_count F) (omega arith)) l
+      ∙ ap (λ (t : Layout). image_of t ++ drop (image_length F) s) (own_layout F)

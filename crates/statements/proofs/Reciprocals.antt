@@ -12,10 +12,12 @@ use lib.Dec.{T, eqb}
 use lib.ListN.{length}
 use Rattle.answers.specs.Refusal.{Refusal, Outcome, outcome, served}
 use Rattle.answers.proofs.Order.{avoids, first, later, shared}
-use Rattle.precision.specs.Precision.{image_length}
+use Rattle.format.specs.Format.{precision_of, word_count, image_length}
+use Rattle.format.proofs.Laws.{count_least}
+use Rattle.format.specs.declared.Format.{Format}
 use Rattle.nodes.specs.Nodes.{node}
 use Rattle.layout.specs.Refusals.{word_refusal}
-use Rattle.image.specs.Image.{plain}
+use Rattle.image.specs.Image.{table_of}
 use Rattle.operand.specs.Operand.{cut_operand}
 use Rattle.operand.specs.Refusals.{fraction_refusal, operand_refusal}
 use Rattle.operand.proofs.Laws.{cut_normalised, cut_greatest}
@@ -54,22 +56,22 @@ module _ (n X : ℕ) (rs : List Refusal) (v : ℕ) where
       operand_passes n X rs v (operand_none n X (record { low = c.0; high = c.1; least = o.0; below = o.1 }))
 
 -- the words of node j, which has one, and of node j + 1, which may have none
-module _ (k : ℕ) (s : List ℕ) (j v : ℕ) (h : j < 2 ^ k) where
+module _ (F : Format) (s : List ℕ) (j v : ℕ) (h : j < word_count F) where
   abbrev words : List Refusal
-  words = word_refusal (plain k) s j ∷ word_refusal (plain k) s (j + 1) ∷ []
+  words = word_refusal (table_of F) s j ∷ word_refusal (table_of F) s (j + 1) ∷ []
 
-  words_6 : ((outcome words v).number ≡ 6) ↔ ((IsRightAt k s j → ⊥) ⊎ ((j + 1 < 2 ^ k) × (IsRightAt k s (j + 1) → ⊥)))
+  words_6 : ((outcome words v).number ≡ 6) ↔ ((IsRightAt F s j → ⊥) ⊎ ((j + 1 < word_count F) × (IsRightAt F s (j + 1) → ⊥)))
   words_6 =
-      joined (shared (word_refusal (plain k) s j) (word_refusal (plain k) s (j + 1) ∷ []) v)
-      (either (joined (wrong_word k s j) (λ t. t.1, λ f. (h, f))) (joined (first (word_refusal (plain k) s (j + 1)) [] v tt) (wrong_word k s (j + 1))))
+      joined (shared (word_refusal (table_of F) s j) (word_refusal (table_of F) s (j + 1) ∷ []) v)
+      (either (joined (wrong_word F s j) (λ t. t.1, λ f. (h, f))) (joined (first (word_refusal (table_of F) s (j + 1)) [] v tt) (wrong_word F s (j + 1))))
 
-  words_0 : ((outcome words v).number ≡ 0) ↔ (IsRightAt k s j × (j + 1 < 2 ^ k → IsRightAt k s (j + 1)))
+  words_0 : ((outcome words v).number ≡ 0) ↔ (IsRightAt F s j × (j + 1 < word_count F → IsRightAt F s (j + 1)))
   words_0 =
-      joined (later 0 (word_refusal (plain k) s j) (word_refusal (plain k) s (j + 1) ∷ []) v tt)
-      (both (joined (no_wrong_word k s j) (λ f. f h, λ r m. r))
-      (joined (later 0 (word_refusal (plain k) s (j + 1)) [] v tt) (joined alone (no_wrong_word k s (j + 1)))))
+      joined (later 0 (word_refusal (table_of F) s j) (word_refusal (table_of F) s (j + 1) ∷ []) v tt)
+      (both (joined (no_wrong_word F s j) (λ f. f h, λ r m. r))
+      (joined (later 0 (word_refusal (table_of F) s (j + 1)) [] v tt) (joined alone (no_wrong_word F s (j + 1)))))
 
--- the whole call
+-- what holds of R and of its node, at every k
 module _ (k n X : ℕ) where
   abbrev j : ℕ
   j = node_number k (cut_operand k n X)
@@ -78,9 +80,9 @@ module _ (k n X : ℕ) where
   cut_in_range : IsNormalised n X → (2 ^ (2 * k + 3) ≤ cut_operand k n X) × (cut_operand k n X < 2 ^ (2 * k + 4))
   cut_in_range o = cut_normalised k n X o.0 o.1
 
-  -- so it leads to a node that has a word
-  pub has_word : IsNormalised n X → j < 2 ^ k
-  has_word o = let r = cut_in_range o in cut_number_below k (cut_operand k n X) r.0 r.1
+  -- so it leads to a node before the last, which has a word in every form
+  pub before_last : IsNormalised n X → j < 2 ^ k
+  before_last o = let r = cut_in_range o in cut_number_below k (cut_operand k n X) r.0 r.1
 
   -- no difference of Algorithm 2 falls below 0
   pub differences : IsNormalised n X
@@ -88,7 +90,7 @@ module _ (k n X : ℕ) where
   differences o =
       let r = cut_in_range o in (
         cut_index k (cut_operand k n X) r.0 r.1,
-        has_word o,
+        before_last o,
         cut_node_falls k (cut_operand k n X),
         difference_most k (node k j) (node k (j + 1)) (fraction k (cut_operand k n X)) (le_of_lt (cut_fraction_below k (cut_operand k n X))),
       )
@@ -116,77 +118,88 @@ module _ (k n X : ℕ) where
       lt_of_mul-lt-mul_right X (omega (arith, whole, reciprocal_low k n X least below)) in
       omega (arith, reached, reciprocal_most (least, below))
 
-  module _ (s : List ℕ) where
-    abbrev v : ℕ
-    v = read_reciprocal k s (cut_operand k n X)
+-- the whole call
+module _ (F : Format) (s : List ℕ) (n X : ℕ) where
+  abbrev k : ℕ
+  k = precision_of F
 
-    abbrev words_read : List Refusal
-    words_read = cut_refusals k s (cut_operand k n X)
+  -- the lower node of the piece to which X leads; it has a word in every form
+  abbrev lower : ℕ
+  lower = j k n X
 
-    abbrev behind_limits : List Refusal
-    behind_limits = fraction_refusal n ∷ operand_refusal n X ∷ words_read
+  pub has_word : IsNormalised n X → lower < word_count F
+  has_word o = omega (arith, before_last k n X o, count_least F.form k)
 
-    -- the numbers
-    pub reciprocal_1 : ((reciprocal_outcome k s n X).number ≡ 1) ↔ (IsPrecision k → ⊥)
-    reciprocal_1 = refuses_1 k s behind_limits v tt
+  abbrev v : ℕ
+  v = read_reciprocal F s (cut_operand k n X)
 
-    pub reciprocal_2 : ((reciprocal_outcome k s n X).number ≡ 2) ↔ (IsPrecision k × (length s < image_length k))
-    reciprocal_2 = refuses_2 k s behind_limits v tt
+  abbrev words_read : List Refusal
+  words_read = cut_refusals F s (cut_operand k n X)
 
-    pub reciprocal_4 : ((reciprocal_outcome k s n X).number ≡ 4) ↔ (IsPrecision k × IsLongEnough k s × (IsFractionCount n → ⊥))
-    reciprocal_4 = joined (later_number k s behind_limits v 4 tt tt) (joined (both same (both same (number_4 n X words_read v tt))) row3)
+  abbrev behind_limits : List Refusal
+  behind_limits = fraction_refusal n ∷ operand_refusal n X ∷ words_read
 
-    pub reciprocal_5 : ((reciprocal_outcome k s n X).number ≡ 5) ↔ (IsPrecision k × IsLongEnough k s × IsFractionCount n × (IsNormalised n X → ⊥))
-    reciprocal_5 = joined (later_number k s behind_limits v 5 tt tt) (joined (both same (both same (number_5 n X words_read v tt))) row4)
+  -- the numbers
+  pub reciprocal_1 : ((reciprocal_outcome F s n X).number ≡ 1) ↔ (IsPrecision k → ⊥)
+  reciprocal_1 = refuses_1 F s behind_limits v tt
 
-    pub reciprocal_6 : ((reciprocal_outcome k s n X).number ≡ 6)
-        ↔ (IsPrecision k × IsLongEnough k s × IsFractionCount n × IsNormalised n X × ((IsRightAt k s j → ⊥) ⊎ ((j + 1 < 2 ^ k) × (IsRightAt k s (j + 1) → ⊥))))
-    reciprocal_6 =
-        joined (later_number k s behind_limits v 6 tt tt)
-        (joined (both same (both same (joined (later_operand n X words_read v 6 tt tt) (under (λ c. under (λ o. words_6 k s j v (has_word o))))))) row5)
+  pub reciprocal_2 : ((reciprocal_outcome F s n X).number ≡ 2) ↔ (IsPrecision k × (length s < image_length F))
+  reciprocal_2 = refuses_2 F s behind_limits v tt
 
-    pub reciprocal_0 : ((reciprocal_outcome k s n X).number ≡ 0)
-        ↔ (IsPrecision k × IsLongEnough k s × IsFractionCount n × IsNormalised n X × IsRightAt k s j × (j + 1 < 2 ^ k → IsRightAt k s (j + 1)))
-    reciprocal_0 =
-        joined (later_number k s behind_limits v 0 tt tt)
-        (joined (both same (both same (joined (later_operand n X words_read v 0 tt tt) (under (λ c. under (λ o. words_0 k s j v (has_word o))))))) row6)
+  pub reciprocal_4 : ((reciprocal_outcome F s n X).number ≡ 4) ↔ (IsPrecision k × IsLongEnough F s × (IsFractionCount n → ⊥))
+  reciprocal_4 = joined (later_number F s behind_limits v 4 tt tt) (joined (both same (both same (number_4 n X words_read v tt))) row3)
 
-    -- the whole answer with all limits kept: by the words of j and j + 1
-    module _ (p : IsPrecision k) (l : IsLongEnough k s) (c : IsFractionCount n) (o : IsNormalised n X) where
-      kept_cut : reciprocal_outcome k s n X ≡ cut_outcome k s (cut_operand k n X)
-      kept_cut = kept_answer k s behind_limits v p l ∙ kept_operand n X words_read v c o
+  pub reciprocal_5 : ((reciprocal_outcome F s n X).number ≡ 5) ↔ (IsPrecision k × IsLongEnough F s × IsFractionCount n × (IsNormalised n X → ⊥))
+  reciprocal_5 = joined (later_number F s behind_limits v 5 tt tt) (joined (both same (both same (number_5 n X words_read v tt))) row4)
 
-      pub lower_named : (IsRightAt k s j → ⊥) → reciprocal_outcome k s n X ≡ record { number = 6; place = j; value = 0 }
-      lower_named f = kept_cut ∙ first-wrong k s (cut_operand k n X) (read_wrong k s j (has_word o) f)
+  pub reciprocal_6 : ((reciprocal_outcome F s n X).number ≡ 6)
+      ↔ (IsPrecision k × IsLongEnough F s × IsFractionCount n × IsNormalised n X × ((IsRightAt F s lower → ⊥) ⊎ ((lower + 1 < word_count F) × (IsRightAt F s (lower + 1) → ⊥))))
+  reciprocal_6 =
+      joined (later_number F s behind_limits v 6 tt tt)
+      (joined (both same (both same (joined (later_operand n X words_read v 6 tt tt) (under (λ c. under (λ o. words_6 F s lower v (has_word o))))))) row5)
 
-      pub upper_named : IsRightAt k s j → j + 1 < 2 ^ k → (IsRightAt k s (j + 1) → ⊥) → reciprocal_outcome k s n X ≡ record { number = 6; place = j + 1; value = 0 }
-      upper_named r m f = kept_cut ∙ next_wrong k s (cut_operand k n X) (read_right k s j (λ l. r)) (read_wrong k s (j + 1) m f)
+  pub reciprocal_0 : ((reciprocal_outcome F s n X).number ≡ 0)
+      ↔ (IsPrecision k × IsLongEnough F s × IsFractionCount n × IsNormalised n X × IsRightAt F s lower × (lower + 1 < word_count F → IsRightAt F s (lower + 1)))
+  reciprocal_0 =
+      joined (later_number F s behind_limits v 0 tt tt)
+      (joined (both same (both same (joined (later_operand n X words_read v 0 tt tt) (under (λ c. under (λ o. words_0 F s lower v (has_word o))))))) row6)
 
-      pub gives : IsRightAt k s j → (j + 1 < 2 ^ k → IsRightAt k s (j + 1)) → reciprocal_outcome k s n X ≡ served (reciprocal k n X)
-      gives r q =
-          let a = read_right k s j (λ l. r) in
-          let b = read_right k s (j + 1) q in
-          kept_cut ∙ none_wrong k s (cut_operand k n X) a b ∙ ap served (gives-R k s (cut_operand k n X) a b (has_word o))
+  -- the whole answer with all limits kept: by the words of j and j + 1
+  module _ (p : IsPrecision k) (l : IsLongEnough F s) (c : IsFractionCount n) (o : IsNormalised n X) where
+    kept_cut : reciprocal_outcome F s n X ≡ cut_outcome F s (cut_operand k n X)
+    kept_cut = kept_answer F s behind_limits v p l ∙ kept_operand n X words_read v c o
 
-    -- the place under 6
-    pub lower_place : (reciprocal_outcome k s n X).number ≡ 6 → (IsRightAt k s j → ⊥) → (reciprocal_outcome k s n X).place ≡ j
-    lower_place e f =
-        let t = reciprocal_6.0 e in
-        ap (λ (a : Outcome). a.place) (lower_named t.0 t.1 t.2 t.3 f)
+    pub lower_named : (IsRightAt F s lower → ⊥) → reciprocal_outcome F s n X ≡ record { number = 6; place = lower; value = 0 }
+    lower_named f = kept_cut ∙ first-wrong F s (cut_operand k n X) (read_wrong F s lower (has_word o) f)
 
-    pub upper_place : (reciprocal_outcome k s n X).number ≡ 6 → IsRightAt k s j → (reciprocal_outcome k s n X).place ≡ j + 1
-    upper_place e r =
-        let t = reciprocal_6.0 e in
-        ⊎_elim (λ f. absurd (f r))
-        (λ u. ap (λ (a : Outcome). a.place) (upper_named t.0 t.1 t.2 t.3 r u.0 u.1))
-        t.4
+    pub upper_named : IsRightAt F s lower → lower + 1 < word_count F → (IsRightAt F s (lower + 1) → ⊥) → reciprocal_outcome F s n X ≡ record { number = 6; place = lower + 1; value = 0 }
+    upper_named r m f = kept_cut ∙ next_wrong F s (cut_operand k n X) (read_right F s lower (λ l. r)) (read_wrong F s (lower + 1) m f)
 
-    -- what is given is R
-    pub given_right : (reciprocal_outcome k s n X).number ≡ 0 → (reciprocal_outcome k s n X).value ≡ reciprocal k n X
-    given_right e =
-        let t = reciprocal_0.0 e in
-        ap (λ (a : Outcome). a.value) (gives t.0 t.1 t.2 t.3 t.4 t.5)
+    pub gives : IsRightAt F s lower → (lower + 1 < word_count F → IsRightAt F s (lower + 1)) → reciprocal_outcome F s n X ≡ served (reciprocal k n X)
+    gives r q =
+        let a = read_right F s lower (λ l. r) in
+        let b = read_right F s (lower + 1) q in
+        kept_cut ∙ none_wrong F s (cut_operand k n X) a b ∙ ap served (gives-R F s (cut_operand k n X) a b (before_last k n X o))
 
-    -- and has what R has for every operand in range
-    pub given_has : (reciprocal_outcome k s n X).number ≡ 0 → (Q : ℕ → Type 0) → (2 ^ n ≤ X → X < 2 ^ (n + 1) → Q (reciprocal k n X)) → Q (reciprocal_outcome k s n X).value
-    given_has e Q holds = let t = reciprocal_0.0 e in rw (given_right e) (holds t.3.0 t.3.1)
+  -- the place under 6
+  pub lower_place : (reciprocal_outcome F s n X).number ≡ 6 → (IsRightAt F s lower → ⊥) → (reciprocal_outcome F s n X).place ≡ lower
+  lower_place e f =
+      let t = reciprocal_6.0 e in
+      ap (λ (a : Outcome). a.place) (lower_named t.0 t.1 t.2 t.3 f)
+
+  pub upper_place : (reciprocal_outcome F s n X).number ≡ 6 → IsRightAt F s lower → (reciprocal_outcome F s n X).place ≡ lower + 1
+  upper_place e r =
+      let t = reciprocal_6.0 e in
+      ⊎_elim (λ f. absurd (f r))
+      (λ u. ap (λ (a : Outcome). a.place) (upper_named t.0 t.1 t.2 t.3 r u.0 u.1))
+      t.4
+
+  -- what is given is R
+  pub given_right : (reciprocal_outcome F s n X).number ≡ 0 → (reciprocal_outcome F s n X).value ≡ reciprocal k n X
+  given_right e =
+      let t = reciprocal_0.0 e in
+      ap (λ (a : Outcome). a.value) (gives t.0 t.1 t.2 t.3 t.4 t.5)
+
+  -- and has what R has for every operand in range
+  pub given_has : (reciprocal_outcome F s n X).number ≡ 0 → (Q : ℕ → Type 0) → (2 ^ n ≤ X → X < 2 ^ (n + 1) → Q (reciprocal k n X)) → Q (reciprocal_outcome F s n X).value
+  given_has e Q holds = let t = reciprocal_0.0 e in rw (given_right e) (holds t.3.0 t.3.1)

@@ -1,8 +1,15 @@
--- The terms in which the theorems speak of a precision k, a buffer s, a node j and an operand X with n fraction bits.
+-- The terms in which the theorems speak of a precision k, a format F, a buffer s, a node j and an operand X with n fraction bits. A format asks for a
+-- precision, `precision_of F`, and a form, plain or full words. `word_count F` is how many words its image has, 2^k plain and 2^k + 1 full;
+-- `word_width F` the bits of one, 2k + 2 plain and 2k + 4 full; `image_length F` the bytes that these words take, the last one filled with zero bits.
+-- `plain_of k` and `full_of k` are the two formats of precision k (proofs/Plain.antt and proofs/Full.antt have all of this in numbers).
 -- Assumes nothing.
-use Rattle.std.specs.Prelude.{◌≡◌, List, ℕ, ◌+◌, ◌*◌, ◌%◌, ◌^◌, ◌≤◌, ◌<◌, length, get_or}
-use Rattle.precision.specs.Precision.{image_length}
+use Rattle.std.specs.Prelude.{◌≡◌, List, ℕ, ◌+◌, ◌*◌, ◌/◌, ◌%◌, ◌^◌, ◌≤◌, ◌<◌, length}
+use Rattle.format.specs.Format.{precision_of, word_count, word_width, image_length}
+use Rattle.format.specs.declared.Form.{Form}
+use Rattle.format.specs.declared.Form.TheVariants.{Plain, Full}
+use Rattle.format.specs.declared.Format.{Format}
 use Rattle.nodes.specs.Nodes.{node}
+use Rattle.packing.specs.Packing.{bit_at}
 use Rattle.image.specs.Image.{word_of}
 
 -- k is a precision
@@ -10,20 +17,25 @@ abbrev pub IsPrecision : ℕ → Type 0
 IsPrecision k = (1 ≤ k) × (k ≤ 12)
 
 -- a buffer is long enough for the image
-abbrev pub IsLongEnough : ℕ → List ℕ → Type 0
-IsLongEnough k s = image_length k ≤ length s
+abbrev pub IsLongEnough : Format → List ℕ → Type 0
+IsLongEnough F s = image_length F ≤ length s
 
--- the word that a buffer holds for node j is the construction's: c(j) modulo 2^(2k+2)
-abbrev pub IsRightAt : ℕ → List ℕ → ℕ → Type 0
-IsRightAt k s j = word_of k s j ≡ node k j % 2 ^ (2 * k + 2)
+-- the construction's word for node j: c(j) modulo 2^(2k+2) in plain words, c(j) itself in full ones
+abbrev pub right_word : Form → ℕ → ℕ → ℕ
+right_word Plain k j = node k j % 2 ^ (2 * k + 2)
+right_word Full k j = node k j
 
--- byte i of a buffer stands past the image and is not zero
-abbrev pub IsSetPast : ℕ → List ℕ → ℕ → Type 0
-IsSetPast k s i = (image_length k ≤ i) × (i < length s) × (get_or s i 0 ≡ 0 → ⊥)
+-- the word that a buffer holds for node j is the construction's
+abbrev pub IsRightAt : Format → List ℕ → ℕ → Type 0
+IsRightAt F s j = word_of F s j ≡ right_word F.form (precision_of F) j
 
--- the tail of a buffer is zero: each of its bytes past the image
-abbrev pub IsTailZero : ℕ → List ℕ → Type 0
-IsTailZero k s = (i : ℕ) → image_length k ≤ i → i < length s → get_or s i 0 ≡ 0
+-- byte i of a buffer has a one behind the last word: one of its bits from there on, bit b of the buffer, is one
+abbrev pub IsSetPast : Format → List ℕ → ℕ → Type 0
+IsSetPast F s i = (i < length s) × ((b : ℕ) × (word_count F * word_width F ≤ b) × (b / 8 ≡ i) × (bit_at s b ≡ 1))
+
+-- nothing stands behind the last word of a buffer: each bit there is zero, whether it fills the image's last byte or stands past the image
+abbrev pub IsTailZero : Format → List ℕ → Type 0
+IsTailZero F s = (b : ℕ) → word_count F * word_width F ≤ b → b < 8 * length s → bit_at s b ≡ 0
 
 -- n is from 1 to 63
 abbrev pub IsFractionCount : ℕ → Type 0
