@@ -14,10 +14,13 @@ from fractions import Fraction
 
 LEAST, GREATEST = 1, 12
 LEAST_BITS, MOST_BITS = 1, 63  # of an operand's fraction
-LENGTHS = [1, 3, 8, 20, 48, 112, 256, 576, 1280, 2816, 6144, 13312]  # as document 01 lists them
+LENGTHS = [1, 3, 8, 20, 48, 112, 256, 576, 1280, 2816, 6144, 13312]  # of the plain images, as document 01 lists them
+PLAIN, FULL = 0, 1  # the forms; as from C, any number but 0 is full
 
 
 # ---- the meaning
+#
+# A table is that of a precision k, and of a form where it has words. The form is the last parameter, and is plain where it is left out.
 
 def in_range(k):
     return LEAST <= k <= GREATEST
@@ -29,20 +32,37 @@ def node(k, j):
     return math.ceil(Fraction(2 ** (3 * k + 3)) / Fraction(2 ** k + j))
 
 
-def width(k):
-    return 2 * k + 2
+def width(k, form=PLAIN):
+    """The bits of a word."""
+    return 2 * k + 4 if form else 2 * k + 2
 
 
-def stored(k, j):
-    """The word of node j: c(j) modulo 2^(2k+2), as a string of bits, most significant first."""
-    return format(node(k, j), "b").zfill(2 * k + 4)[-width(k):]
+def count(k, form=PLAIN):
+    """The words of an image: one for each node but the last, in the full form for that one too."""
+    return 2 ** k + 1 if form else 2 ** k
+
+
+def bit_count(k, form=PLAIN):
+    """The bits that the words of an image are."""
+    return count(k, form) * width(k, form)
+
+
+def length(k, form=PLAIN):
+    """The bytes of an image."""
+    return math.ceil(Fraction(bit_count(k, form), 8))
+
+
+def stored(k, j, form=PLAIN):
+    """The word of node j, as a string of bits, most significant first: the last ones of c(j), and in the full form all 2k + 4."""
+    return format(node(k, j), "b").zfill(2 * k + 4)[-width(k, form):]
 
 
 @functools.lru_cache(maxsize=None)
-def image(k):
-    """The words in node order, with no padding, cut into bytes."""
-    bits = "".join(stored(k, j) for j in range(2 ** k))
-    assert len(bits) == 8 * LENGTHS[k - 1]
+def image(k, form=PLAIN):
+    """The words in node order, one right behind another, then zeros to the end of a byte, cut into bytes."""
+    bits = "".join(stored(k, j, form) for j in range(count(k, form)))
+    bits += "0" * (-len(bits) % 8)
+    assert form or len(bits) == 8 * LENGTHS[k - 1]
     return bytes(int(bits[at:at + 8], 2) for at in range(0, len(bits), 8))
 
 
@@ -51,14 +71,16 @@ def bits_of(buffer):
     return "".join(format(byte, "08b") for byte in buffer)
 
 
-def tail_is_not_zero(k, buffer):
-    """The lowest byte past the image that is not zero, and none where all are: the first one among the bits that follow the image's."""
-    one = bits_of(buffer).find("1", 8 * LENGTHS[k - 1])
+def tail_is_not_zero(k, buffer, form=PLAIN):
+    """The lowest byte in which a bit behind the words is one, and none where all are zeros: the byte of the first such bit."""
+    one = bits_of(buffer).find("1", bit_count(k, form))
     return [] if one < 0 else [one // 8]
 
 
-def word_is_right(k, buffer, j):
-    return bits_of(buffer)[j * width(k):(j + 1) * width(k)] == stored(k, j)
+def word_is_wrong(k, buffer, j, form=PLAIN):
+    """Whether node j has a word and it is not the node's."""
+    found = bits_of(buffer)[j * width(k, form):(j + 1) * width(k, form)]
+    return j < count(k, form) and found != stored(k, j, form)
 
 
 def leading(k, x):
@@ -89,44 +111,44 @@ def reciprocal(k, n, x):
 
 # ---- the calls: each answer is (number, place, value)
 
-def first_two(k, buffer):
+def first_two(k, buffer, form):
     """Refusals 1 and 2, or 0."""
     if not in_range(k):
         return 1
-    if len(buffer) < LENGTHS[k - 1]:
+    if len(buffer) < length(k, form):
         return 2
     return 0
 
 
-def call_build(k, buffer):
-    number = first_two(k, buffer)
+def call_build(k, buffer, form=PLAIN):
+    number = first_two(k, buffer, form)
     if number:
         return (number, 0, 0), buffer
-    return (0, 0, 0), image(k).ljust(len(buffer), b"\0")
+    return (0, 0, 0), image(k, form).ljust(len(buffer), b"\0")
 
 
-def call_check(k, buffer):
-    number = first_two(k, buffer)
+def call_check(k, buffer, form=PLAIN):
+    number = first_two(k, buffer, form)
     if number:
         return (number, 0, 0)
-    bad = [j for j in range(2 ** k) if not word_is_right(k, buffer, j)]
-    wrong = [(6, j, 0) for j in bad] + [(7, at, 0) for at in tail_is_not_zero(k, buffer)]
+    bad = [j for j in range(count(k, form)) if word_is_wrong(k, buffer, j, form)]
+    wrong = [(6, j, 0) for j in bad] + [(7, at, 0) for at in tail_is_not_zero(k, buffer, form)]
     return min(wrong, default=(0, 0, 0))
 
 
-def call_node(k, buffer, j):
-    number = first_two(k, buffer)
+def call_node(k, buffer, j, form=PLAIN):
+    number = first_two(k, buffer, form)
     if number:
         return (number, 0, 0)
     if j > 2 ** k:
         return (3, 0, 0)
-    if j < 2 ** k and not word_is_right(k, buffer, j):
+    if word_is_wrong(k, buffer, j, form):
         return (6, j, 0)
     return (0, 0, node(k, j))
 
 
-def call_reciprocal(k, buffer, n, x):
-    number = first_two(k, buffer)
+def call_reciprocal(k, buffer, n, x, form=PLAIN):
+    number = first_two(k, buffer, form)
     if number:
         return (number, 0, 0)
     if not LEAST_BITS <= n <= MOST_BITS:
@@ -134,15 +156,15 @@ def call_reciprocal(k, buffer, n, x):
     if not 2 ** n <= x <= 2 ** (n + 1) - 1:
         return (5, 0, 0)
     ends = (piece(k, x), piece(k, x) + 1)
-    bad = [j for j in ends if j < 2 ** k and not word_is_right(k, buffer, j)]
+    bad = [j for j in ends if word_is_wrong(k, buffer, j, form)]
     return (6, min(bad), 0) if bad else (0, 0, reciprocal(k, n, x))
 
 
-def call_word_bytes(k, buffer, j):
-    if first_two(k, buffer) or j > 2 ** k - 1:
+def call_word_bytes(k, buffer, j, form=PLAIN):
+    if first_two(k, buffer, form) or j > count(k, form) - 1:
         return b""
-    first = math.floor(Fraction(j * width(k), 8))
-    last = math.floor(Fraction(j * width(k) + width(k) - 1, 8))
+    first = math.floor(Fraction(j * width(k, form), 8))
+    last = math.floor(Fraction((j + 1) * width(k, form) - 1, 8))
     return bytes(buffer[at] for at in range(first, last + 1))
 
 
@@ -183,7 +205,7 @@ def value_or_0(k, j):
 class Cases:
     """Runs a script as crates/cases/src/main.rt describes it: each command is a method, and what it returns is printed."""
 
-    COMMANDS = "fill hex xor length show build precision check node kept word rule eight invert around through".split(" ")
+    COMMANDS = "fill hex xor length show build precision format check node kept word rule eight invert around through".split(" ")
 
     def __init__(self):
         self.room = bytes(ROOM)
@@ -216,8 +238,8 @@ class Cases:
     def show(self):
         return rows(self.buffer())
 
-    def build(self, k):
-        answer, after = call_build(k, self.buffer())
+    def build(self, k, form=PLAIN):
+        answer, after = call_build(k, self.buffer(), form)
         self.put(after)
         return row(*answer)
 
@@ -228,27 +250,33 @@ class Cases:
     def precision(self, first, last=0):
         def answer(k):
             words = 2 ** k if in_range(k) else 0
-            length = Fraction(words * width(k), 8)
-            return row(int(in_range(k)), width(k), words, length, LEAST, GREATEST, max(LENGTHS), LEAST_BITS, MOST_BITS)
+            size = Fraction(words * width(k), 8)
+            return row(int(in_range(k)), width(k), words, size, LEAST, GREATEST, max(LENGTHS), LEAST_BITS, MOST_BITS)
         return self.each(first, last, answer)
 
-    def check(self, first, last=0):
-        return self.each(first, last, lambda k: row(*call_check(k, self.buffer())))
+    def format(self, first, last=0, form=PLAIN):
+        def answer(k):
+            sizes = (count(k, form), length(k, form)) if in_range(k) else (0, 0)
+            return row(width(k, form), *sizes, length(GREATEST, PLAIN), length(GREATEST, FULL))
+        return self.each(first, last, answer)
 
-    def node(self, first, last, k):
-        return self.each(first, last, lambda j: row(*call_node(k, self.buffer(), j)))
+    def check(self, first, last=0, form=PLAIN):
+        return self.each(first, last, lambda k: row(*call_check(k, self.buffer(), form)))
 
-    def word(self, first, last, k):
-        return self.each(first, last, lambda j: rows(call_word_bytes(k, self.buffer(), j)))
+    def node(self, first, last, k, form=PLAIN):
+        return self.each(first, last, lambda j: row(*call_node(k, self.buffer(), j, form)))
 
-    def invert(self, k, n, x, count=1, step=0):
+    def word(self, first, last, k, form=PLAIN):
+        return self.each(first, last, lambda j: rows(call_word_bytes(k, self.buffer(), j, form)))
+
+    def invert(self, k, n, x, count=1, step=0, form=PLAIN):
         """What is answered at the operands x, x + step, .. modulo 2^64, of which there is at least one."""
         operands = [(x + step * number) % 2 ** 64 for number in range(max(1, count))]
-        return "".join(row(operand, *call_reciprocal(k, self.buffer(), n, operand)) for operand in operands)
+        return "".join(row(operand, *call_reciprocal(k, self.buffer(), n, operand, form)) for operand in operands)
 
-    def around(self, k, n, x, count=1, step=0):
+    def around(self, k, n, x, count=1, step=0, form=PLAIN):
         operands = [x + step * number for number in range(max(1, count))]
-        return "".join(self.invert(k, n, operand - 1, 3, 1) for operand in operands)
+        return "".join(self.invert(k, n, operand - 1, 3, 1, form) for operand in operands)
 
     kept, through = node, invert  # a bound table gives what the plain calls give
 
