@@ -10,6 +10,7 @@ from fractions import Fraction
 
 import reference
 import script
+from reference import FULL
 
 ROOT = pathlib.Path(__file__).resolve().parent.parent
 
@@ -79,7 +80,7 @@ def printed_output():
 
 
 def random_operands(rng, k):
-    """The numbers of a line of operands: often near a node, often with fraction bits that can be served, as many as the table looks at, fewer
+    """The numbers of a line of operands, but for the form: often near a node, often with fraction bits that can be served, as many as the table looks at, fewer
     or more."""
     n = rng.choice([0, 1, k, k + 1, 2 * k + 2, 2 * k + 3, 2 * k + 3, 2 * k + 4, 31, 32, 52, 62, 63, 63, 64, rng.randrange(70)])
     n = min(n, 2 ** 32 - 1)
@@ -93,37 +94,40 @@ def random_operands(rng, k):
 
 
 def random_line(rng):
-    """A line of a script, or a few: mostly small precisions, often an image, often slightly damaged, at any length; a full ROM, and one
-    with a byte of it changed."""
+    """A line of a script, or a few: mostly small precisions, either form, often an image, often slightly damaged, at any length; a full
+    ROM, and one with a byte of it changed."""
+    form = rng.choice([0, 0, 0, 0, 1, 1, 1, rng.choice([2, 256, 4294967295])])
     k = rng.choice([0, 1, 1, 2, 2, 2, 3, 3, 4, 5, 6, 8, 12, 13, 4294967295])
     last = 2 ** k if k <= 12 else 4
     first = rng.choice([0, rng.randint(0, last), last - 1, last, last + 1, rng.randint(0, 2 ** 32 - 1)])
     to = min(first + rng.randint(0, 5), 2 ** 32 - 1)
-    size = reference.LENGTHS[k - 1] if reference.in_range(k) else 4
+    size = reference.length(k, form) if reference.in_range(k) else 4
     kind = rng.choice(["hex", "hex", "image", "image", "xor", "xor", "length", "length", "fill", "build", "check", "check", "node",
-                       "node", "word", "rule", "precision", "show", "kept", "invert", "around", "through", "served", "served", "served",
-                       "rom", "rom", "rom"])
+                       "node", "word", "rule", "precision", "format", "show", "kept", "invert", "around", "through", "served", "served",
+                       "served", "rom", "rom", "rom"])
     rom = min(size + rng.choice([1, 2, 63, 64, 65, rng.randint(0, 300), 16384]), 16384)
     changed = rng.choice([size, rng.randint(size, rom), rom - 1, rom, rng.randrange(rom)])
     return {
         "hex": "hex " + " ".join(f"{rng.randrange(256):02X}" for _ in range(rng.randint(1, 9))),
-        "image": f"length {size}\nbuild {k}",
+        "image": f"length {size}\nbuild {k} {form}",
         "xor": f"xor {rng.randrange(rng.choice([1, 3, 8, 20, 16384]))} {rng.choice([1, 2, 4, 8, 16, 32, 64, 128, 255])}",
         "length": f"length {rng.choice([0, max(size - 1, 0), size, size + 1, rng.randint(0, 40), 16384])}",
         "fill": f"fill {rng.randrange(256)} {rng.choice([0, 1, rng.randrange(256)])}",
-        "build": f"build {rng.choice([0, 1, 2, 3, 4, 13])}\nshow",
-        "check": f"check {rng.choice([k, f'{k} {min(k + 3, 2 ** 32 - 1)}'])}",
-        "node": f"node {first} {to} {k}",
-        "word": f"word {first} {to} {k}",
+        "build": f"build {rng.choice([0, 1, 2, 3, 4, 13])} {form}\nshow",
+        "check": f"check {k} {rng.choice([0, min(k + 3, 2 ** 32 - 1)])} {form}",
+        "node": f"node {first} {to} {k} {form}",
+        "word": f"word {first} {to} {k} {form}",
         "rule": f"rule {first} {to} {k}",
         "precision": f"precision {k}",
+        "format": f"format {k} 0 {form}",
         "show": "show",
-        "kept": f"kept {first} {to} {k}",
-        "invert": f"invert {random_operands(rng, k)}",
-        "around": f"around {random_operands(rng, k)}",
-        "through": f"through {random_operands(rng, k)}",
-        "rom": f"length {rom}\nbuild {k}\ncheck {k}\nxor {min(changed, 16383)} {rng.randint(1, 255)}\ncheck {k}\nnode {first} {to} {k}",
-        "served": f"length {size}\nbuild {k}\ninvert {random_operands(rng, k)}",
+        "kept": f"kept {first} {to} {k} {form}",
+        "invert": f"invert {random_operands(rng, k)} {form}",
+        "around": f"around {random_operands(rng, k)} {form}",
+        "through": f"through {random_operands(rng, k)} {form}",
+        "rom": f"length {rom}\nbuild {k} {form}\ncheck {k} 0 {form}\nxor {min(changed, 16383)} {rng.randint(1, 255)}\n"
+               f"check {k} 0 {form}\nnode {first} {to} {k} {form}",
+        "served": f"length {size}\nbuild {k} {form}\ninvert {random_operands(rng, k)} {form}",
     }[kind]
 
 
@@ -134,16 +138,17 @@ def random_scripts(seed):
 
 
 def reciprocals(output):
-    """Each answer of a reciprocal that `cases` printed: the line that last changed the lent bytes, K, N, the operand, its number, its
-    place and its value."""
+    """Each answer of a reciprocal that `cases` printed: the lent bytes, by the line that last changed them, and the form that they are taken
+    in; K, N, the operand, its number, its place and its value."""
     changed, numbers = 0, None
     for at, line in enumerate(output.decode().splitlines()):
         word, *rest = line.split(" ")
         if word:
             numbers = rest[:2] if word in ("invert", "around", "through") else None
+            full = rest[5:6] not in ([], ["0"])
             changed = at if word in ("hex", "fill", "xor", "length", "build") else changed
         elif numbers:
-            yield (changed, *map(int, numbers), *map(int, rest))
+            yield ((changed, full), *map(int, numbers), *map(int, rest))
 
 
 def less_than_an_ulp():
@@ -178,23 +183,25 @@ def bits_to_the_right():
 
 
 def bound_table():
-    """Each call through a bound table stands below the same plain call, and is answered as that one was."""
-    plain = {"kept": "node", "through": "invert"}
+    """Each call through a bound table stands below the same one on the image itself, and is answered as that one was."""
+    itself = {"kept": ("node", 3), "through": ("invert", 5)}  # the call on the image, and how many numbers stand before the form
     asked = re.split(r"\n(?! )", printed().decode())
     seen = set()
     for above, each in zip(asked, asked[1:]):
         word, _, rest = each.partition(" ")
-        if word in plain:
-            seen.add(word)
-            if above != f"{plain[word]} {rest}":
+        if word in itself:
+            name, before = itself[word]
+            seen.add((word, len(rest.partition("\n")[0].split(" ")) > before))
+            if above != f"{name} {rest}":
                 return f"{each}, below {above}"
-    return None if seen == set(plain) else f"asked were only {seen}"
+    wanted = {(word, full) for word in itself for full in (False, True)}
+    return None if seen == wanted else f"asked were only {seen}"
 
 
 # ---- what the documents say
 
 def document_examples():
-    """The examples and limits of document 01 for the image, those of Q-2 among them, and the P that it names, by the reference."""
+    """The examples and limits of document 01 for the image, those of Q-2 and Q-7 among them, and the P that it names, by the reference."""
     nodes = {1: [32, 22, 16], 2: [128, 103, 86, 74, 64], 3: [512, 456, 410, 373, 342, 316, 293, 274, 256]}
     images = {1: "06", 2: "02 75 8A", 3: "00 C8 9A 75 56 3C 25 12"}
     for k in (1, 2, 3):
@@ -202,7 +209,9 @@ def document_examples():
             return f"the nodes of precision {k}"
         if reference.image(k) != bytes.fromhex(images[k]):
             return f"the image of precision {k}"
-    two = bytes.fromhex("02758A")
+    if [reference.image(k, FULL) for k in (1, 2)] != [bytes.fromhex("816400"), bytes.fromhex("8067564A40")]:
+        return "the full images of precisions 1 and 2"
+    two, full = bytes.fromhex("02758A"), bytes.fromhex("8067564A40")
     limits = [
         (reference.call_check(0, two), (1, 0, 0)),
         (reference.call_check(13, bytes(20000)), (1, 0, 0)),
@@ -220,6 +229,21 @@ def document_examples():
         (reference.call_check(2, bytes.fromhex("02758A00")), (0, 0, 0)),
         (reference.call_check(2, bytes.fromhex("02758A0001")), (7, 4, 0)),
         (reference.call_check(2, bytes.fromhex("02758B01")), (6, 3, 0)),
+        (reference.call_build(2, b"\xa5" * 6, FULL), ((0, 0, 0), full + b"\0")),
+        (reference.call_build(2, full[:4], FULL), ((2, 0, 0), full[:4])),
+        (reference.call_check(13, full, FULL), (1, 0, 0)),
+        (reference.call_check(2, full, FULL), (0, 0, 0)),
+        (reference.call_check(2, bytes.fromhex("8067564A41"), FULL), (6, 4, 0)),
+        (reference.call_node(2, bytes.fromhex("8067564A41"), 4, FULL), (6, 4, 0)),
+        (reference.call_node(2, full, 5, FULL), (3, 0, 0)),
+        (reference.call_reciprocal(2, bytes.fromhex("8067564A41"), 7, 255, FULL), (6, 4, 0)),
+        (reference.call_reciprocal(2, full, 7, 255, FULL), (0, 0, 16)),
+        (reference.call_word_bytes(1, bytes.fromhex("816400"), 2, FULL), bytes.fromhex("6400")),
+        (reference.call_word_bytes(2, full, 4, FULL), bytes.fromhex("40")),
+        (reference.call_word_bytes(2, full, 5, FULL), b""),
+        (reference.call_check(1, bytes.fromhex("816401"), FULL), (7, 2, 0)),
+        (reference.call_check(1, bytes.fromhex("81642001"), FULL), (7, 2, 0)),
+        (reference.call_check(1, bytes.fromhex("81640001"), FULL), (7, 3, 0)),
     ]
     for number, (found, expected) in enumerate(limits):
         if found != expected:
@@ -228,11 +252,11 @@ def document_examples():
 
 
 def document_cases(output):
-    """tests/document01.txt has the cases of document 01 for reciprocals and those of Q-2, as `cases` must print them, and says where
+    """tests/document01.txt has the cases of document 01 for reciprocals and those of Q-2 and Q-7, as `cases` must print them, and says where
     their answers are from. It must be printed as it stands, with no line between and none after its last case."""
     document = (ROOT / "tests" / "document01.txt").read_bytes()
     cases = re.findall(rb"^#.*\n(?!#)", document, re.M)
-    if len(cases) != 39:
+    if len(cases) != 56:
         return f"there are {len(cases)} cases"
     below = output.split(script.MARK.encode(), 1)[1]
     return same(below[:len(document) + 1], document + b"#")
@@ -394,9 +418,9 @@ def one_command():
 
 
 def tests():
-    yield "document 01: the examples and limits of the image, those of Q-2, and P of 135, by the reference", document_examples
-    yield "document 01: its cases for reciprocals and those of Q-2, by the reference", lambda: document_cases(expected())
-    yield "document 01: its cases for reciprocals and those of Q-2, by the program", lambda: document_cases(printed())
+    yield "document 01: the examples and limits of the image, those of Q-2 and Q-7, and P of 135, by the reference", document_examples
+    yield "document 01: its cases for reciprocals and those of Q-2 and Q-7, by the reference", lambda: document_cases(expected())
+    yield "document 01: its cases for reciprocals and those of Q-2 and Q-7, by the program", lambda: document_cases(printed())
     yield "document 01: the printed table of precision 2, by the reference", document_table
     yield "cases: the stored script below its mark is what tests/script.py writes", stored_script
     yield "cases: the stored output is what the reference writes", stored_output

@@ -184,7 +184,7 @@ def table(data):
 # ---- the program `cases`
 
 ROOM = 16384  # bytes, of which the front is lent
-SCRIPT = 65536  # bytes of the script that are read
+SCRIPT = 131072  # bytes of the script that are read
 
 
 def rows(data):

@@ -9,6 +9,7 @@ their answers, and those that are made here.
 import pathlib
 
 import reference
+from reference import FULL, PLAIN
 
 ROOT = pathlib.Path(__file__).resolve().parent.parent
 STDIN = ROOT / "crates" / "cases" / "stdin"
@@ -20,35 +21,51 @@ TOP = 2 ** 64 - 1
 
 # ---- lines of a script
 
-def size(k):
-    return reference.LENGTHS[k - 1]
+size = reference.length
 
 
-def image(k, fill=0):
-    """An image of its own length, in a room of the byte `fill`."""
-    return [f"fill {fill}", f"length {size(k)}", f"build {k}"]
+def last(form):
+    """The form as the last number of a line, which plain words leave out."""
+    return f" {form}" if form else ""
 
 
-def operands(word, k, n, x, count, step):
-    return f"{word} {k} {n} {x % 2 ** 64}" + (f" {count} {step}" if count > 1 else "")
+def build(k, form=PLAIN):
+    return f"build {k}{last(form)}"
 
 
-def invert(k, n, x, count=1, step=0):
-    return operands("invert", k, n, x, count, step)
+def image(k, fill=0, form=PLAIN, more=0):
+    """An image of its own length, or with more bytes behind it, in a room of the byte `fill`."""
+    return [f"fill {fill}", f"length {size(k, form) + more}", build(k, form)]
 
 
-def around(k, n, x, count=1, step=0):
-    return operands("around", k, n, x, count, step)
+def check(k, form=PLAIN):
+    return f"check {k} 0 {form}" if form else f"check {k}"
 
 
-def node(first, last, k):
-    return f"node {first} {last} {k}"
+def operands(word, k, n, x, count, step, form):
+    return f"{word} {k} {n} {x % 2 ** 64}" + (f" {count} {step}" if count > 1 or form else "") + last(form)
 
 
-def both(plain):
-    """A plain call, and the same through a bound table."""
-    word, rest = plain.split(" ", 1)
-    return [plain, {"invert": "through", "node": "kept"}[word] + " " + rest]
+def invert(k, n, x, count=1, step=0, form=PLAIN):
+    return operands("invert", k, n, x, count, step, form)
+
+
+def around(k, n, x, count=1, step=0, form=PLAIN):
+    return operands("around", k, n, x, count, step, form)
+
+
+def node(first, to, k, form=PLAIN):
+    return f"node {first} {to} {k}{last(form)}"
+
+
+def word(first, to, k, form=PLAIN):
+    return f"word {first} {to} {k}{last(form)}"
+
+
+def both(call):
+    """A call on an image, and the same through a bound table."""
+    name, rest = call.split(" ", 1)
+    return [call, {"invert": "through", "node": "kept"}[name] + " " + rest]
 
 
 def flip(bit):
@@ -56,14 +73,14 @@ def flip(bit):
     return f"xor {bit // 8} {128 >> bit % 8}"
 
 
-def flip_first(k, j):
+def flip_first(k, j, form=PLAIN):
     """The most significant bit of word j is changed."""
-    return flip(j * reference.width(k))
+    return flip(j * reference.width(k, form))
 
 
-def flip_last(k, j):
+def flip_last(k, j, form=PLAIN):
     """The least significant bit of word j is changed."""
-    return flip((j + 1) * reference.width(k) - 1)
+    return flip((j + 1) * reference.width(k, form) - 1)
 
 
 # ---- what the documents say
@@ -121,18 +138,18 @@ def spread():
         yield from both(node(0, 0, k))
 
 
-def short(k):
+def short(k, form=PLAIN):
     """Short operands: both ends and both sides where fewer nodes than all have an operand, where each has one, and where the table looks at
     one bit more than there is; one operand with zeros to its right, and with ones behind the first 2k + 3 fraction bits."""
     for n in sorted({1, k - 1, k, 2 * k + 2} - {0}):
-        yield around(k, n, 2 ** n, 2, 2 ** n)
+        yield around(k, n, 2 ** n, 2, 2 ** n, form)
     n, cut = k + 1, 2 * k + 3
     x = 2 ** n + (2 ** n * (5 * k + 3) // 67 | 1)  # its last bit is 1; another piece at each precision
-    yield from both(invert(k, n, x))
-    yield invert(k, n + 1, 2 * x, 2, 1)
-    yield invert(k, cut, x * 2 ** (cut - n))
-    yield invert(k, cut + 2, x * 2 ** (cut + 2 - n), 4, 1)
-    yield invert(k, 63, x * 2 ** (63 - n), 2, 2 ** (63 - cut) - 1)
+    yield from both(invert(k, n, x, 1, 0, form))
+    yield invert(k, n + 1, 2 * x, 2, 1, form)
+    yield invert(k, cut, x * 2 ** (cut - n), 1, 0, form)
+    yield invert(k, cut + 2, x * 2 ** (cut + 2 - n), 4, 1, form)
+    yield invert(k, 63, x * 2 ** (63 - n), 2, 2 ** (63 - cut) - 1, form)
 
 
 def single_precision():
@@ -298,13 +315,13 @@ def limits():
         yield invert(2, n, TOP, 4, 1)
 
 
-def pairs(precisions, lengths):
+def pairs(precisions, lengths, form=PLAIN):
     """The operands 127, 128, 2^64 - 1 and 0 at each precision with each number of fraction bits, and nodes 4 and 5."""
     for k in precisions:
         for n in lengths:
-            yield from both(invert(k, n, 127, 2, 1))
-            yield invert(k, n, TOP, 2, 1)
-        yield from both(node(4, 5, k))
+            yield from both(invert(k, n, 127, 2, 1, form))
+            yield invert(k, n, TOP, 2, 1, form)
+        yield from both(node(4, 5, k, form))
 
 
 def order():
@@ -319,8 +336,184 @@ def order():
     yield from pairs((0, 2, 13), (0, 6, 7, 4294967295))
 
 
+# ---- full words
+
+def formats():
+    yield "# What a format says of itself; a form is full for each number but 0"
+    for form in (PLAIN, FULL):
+        yield f"format 0 14{last(form)}"
+        for k in (32, 2147483647, 2147483648, 4294967295):
+            yield f"format {k} 0{last(form)}"
+    for form in (2, 3, 256, 65536, 2147483648, 4294967295):
+        yield f"format 1 2 {form}"
+
+
+def full_words():
+    yield "# Full words: each image, its nodes and the bytes of its words; then it is taken for one of plain words. In a buffer one byte short no"
+    yield "# call is served, but one of plain words is, and these are then taken for full ones"
+    for k in PRECISIONS:
+        top, own = 2 ** k, size(k, FULL)
+        yield from image(k, 90, FULL)
+        yield "show"
+        yield check(k, FULL)
+        yield from both(node(0, top + 1, k, FULL)) if k < 7 else [node(0, top + 1, k, FULL)]
+        for first, to in [(0, top + 1)] if k < 7 else [(0, 1), (top // 2 - 1, top // 2), (top - 2, top + 1)]:
+            yield word(first, to, k, FULL)
+        yield check(k)
+        yield node(top - 1, top, k)
+        yield word(top - 1, top, k)
+        yield f"length {own - 1}"
+        yield build(k, FULL)
+        yield check(k, FULL)
+        yield from both(node(top, top + 1, k, FULL))
+        yield word(top, top, k, FULL)
+        yield from both(invert(k, 1, 3, 1, 0, FULL))
+        yield build(k)
+        yield check(k)
+        yield f"length {own}"
+        yield check(k, FULL)
+        yield node(top - 1, top, k, FULL)
+        yield from both(invert(k, 1, 3, 1, 0, FULL))
+
+
+def full_operands():
+    yield "# Operands and full words: every operand with 1 to 2k + 3 fraction bits, and one on each side; then a spread of them, as above"
+    for k in (1, 2):
+        yield from image(k, 0, FULL)
+        for n in range(1, 2 * k + 4):
+            yield invert(k, n, 2 ** n - 1, 2 ** n + 2, 1, FULL)
+    for k in PRECISIONS:
+        yield from image(k, k, FULL, 16 - k)
+        cut, parts = 2 * k + 3, min(k, 3)
+        for n in (cut, cut + 1, 63):
+            piece = 2 ** (n - k)
+            yield around(k, n, 2 ** n, 2 ** parts + 1, 2 ** (n - parts), FULL)
+            yield around(k, n, 2 ** n + piece, 2, piece - 1, FULL)
+            yield around(k, n, 2 ** (n + 1) - piece, 2, piece - 1, FULL)
+        for n in (cut, 63):
+            yield from both(invert(k, n, 2 ** n + 2 ** n // 97, 24, (2 ** n // 24 - 2 ** n // 1500) | 1, FULL))
+        yield from short(k, FULL)
+        yield invert(k, 0, 1, 1, 0, FULL)
+        yield invert(k, 64, 2 ** 63, 1, 0, FULL)
+
+
+def wrong_full_words():
+    yield "# Wrong full words: every choice of them at k = 2, at the first, a middle and the last operand of each piece, and at each short one that"
+    yield "# stands at a node"
+    changes = (0b00000001, 0b10000000, 0b00000100, 0b11111111, 0b01000000)  # of the five words, which are bytes
+    for choice in range(32):
+        words = [int(reference.stored(2, j, FULL), 2) ^ (changes[j] if choice >> j & 1 else 0) for j in range(5)]
+        yield f"hex {bytes(words).hex(' ').upper()}"
+        yield check(2, FULL)
+        yield from both(node(0, 5, 2, FULL))
+        yield from both(invert(2, 7, 128, 8, 16, FULL))
+        yield invert(2, 7, 159, 4, 32, FULL)
+        yield from both(invert(2, 2, 4, 4, 1, FULL))
+
+
+def each_full_bit():
+    yield "# Full words with one bit changed, each in turn, filling bits too; from k = 4 on, the first and the last one of a few words"
+    for k, count, step in ((1, 4, 8), (2, 4, 32)):
+        n = 2 * k + 3
+        yield from image(k, 0, FULL)
+        for bit in range(8 * size(k, FULL)):
+            yield flip(bit)
+            yield check(k, FULL)
+            yield node(0, 2 ** k, k, FULL)
+            yield invert(k, n, 2 ** n, count, step, FULL)
+            yield flip(bit)
+    yield from image(3, 0, FULL)
+    for bit in range(8 * size(3, FULL)):
+        yield flip(bit)
+        yield check(3, FULL)
+        yield flip(bit)
+    for k in range(4, 13):
+        yield from image(k, 0, FULL)
+        for j in (0, 2 ** (k - 1) + k, 2 ** k - 1):
+            for change in (flip_first(k, j, FULL), flip_last(k, j, FULL)):
+                yield change
+                yield check(k, FULL)
+                yield invert(k, k, 2 ** k + j - 1, 3, 1, FULL)
+                yield change
+
+
+def last_full_word():
+    yield "# The word of node 2^k is wrong, in its last bit and then in its first one too; then also that of node 2^k - 1, then that alone"
+    for k in PRECISIONS:
+        form = (FULL, 2, 256, 4294967295)[k % 4]
+        top, n = 2 ** k, 2 * k + 4 - k % 2
+        piece = 2 ** (n - k)
+        yield from image(k, 255, form, k % 3)
+        for changes in ((flip_last(k, top, form),), (flip_first(k, top, form),), (flip_first(k, top - 1, form),),
+                        (flip_first(k, top, form), flip_last(k, top, form))):
+            yield from changes
+            yield check(k, form)
+            yield from both(node(top - 1, top + 1, k, form))
+            yield word(top, top + 1, k, form)
+            yield from both(invert(k, n, 2 ** (n + 1) - piece - 1, 3, piece // 2, form))
+            yield invert(k, k, 2 ** (k + 1) - 2, 2, 1, form)
+
+
+def filling_bits():
+    yield "# Filling bits: each in turn, then all, where the image is all that is lent; no other call depends on them. Then with bytes behind it, of"
+    yield "# which one is changed too: the last filling bit alone, with that byte, and the byte alone; the lowest byte is named. Then a word is wrong too"
+    for k in PRECISIONS:
+        top, own = 2 ** k, size(k, FULL)
+        yield from image(k, 255, FULL)
+        filling = range(reference.bit_count(k, FULL), 8 * own)
+        for bit in filling:
+            yield flip(bit)
+            yield check(k, FULL)
+            yield flip(bit)
+        if filling:
+            yield f"xor {own - 1} {2 ** len(filling) - 1}"
+            yield check(k, FULL)
+            yield from both(node(top, top, k, FULL))
+            yield word(top, top, k, FULL)
+            yield from both(invert(k, k, 2 * top - 1, 1, 0, FULL))
+        for more in (1 + k, 16384 - own if k % 3 == 0 else 200 + k):
+            yield f"fill {100 + k} 1"
+            yield f"length {own + more}"
+            yield build(k, FULL)
+            if own + more < 200:
+                yield "show"
+            yield check(k, FULL)
+            bit = 8 * own - 1 if filling else 8 * own  # the first bit behind the image, where it has no filling bit
+            for change in (flip(bit), f"xor {own + more - 1} {1 << k % 8}", flip(bit), flip_last(k, top, FULL), flip(bit)):
+                yield change
+                yield check(k, FULL)
+            yield node(top - 1, top, k, FULL)
+            yield invert(k, k, 2 * top - 2, 2, 1, FULL)
+
+
+def full_refusals():
+    yield "# Refusals and full words: precisions out of range, before a buffer too short"
+    for length in (0, 5, 16384):
+        yield f"length {length}"
+        for k in (0, 13, 4294967295):
+            yield build(k, FULL)
+            yield check(k, FULL)
+            yield from both(node(0, 1, k, FULL))
+            yield word(0, 1, k, FULL)
+            yield from both(invert(k, 7, 135, 1, 0, FULL))
+    yield "# Refusals and full words: the reciprocal's, in their order"
+    for data in ("80 67 56 4A", "FF FF FF FF FF", "80 67 56 4A 40"):
+        yield f"hex {data}"
+        yield from pairs((0, 2, 13), (0, 6, 7, 64), FULL)
+    for n in (1, 2, 6, 7, 8, 31, 32, 62, 63):
+        yield around(2, n, 2 ** n, 2, 2 ** n, FULL)
+        yield invert(2, n, TOP, 4, 1, FULL)
+    yield "# Refusals and full words: a node that there is none of, in front of a wrong word"
+    yield "hex 00 00 00 00 00"
+    yield node(0, 6, 2, FULL)
+    yield node(4294967295, 4294967295, 2, FULL)
+    yield word(0, 6, 2, FULL)
+    yield word(4294967295, 4294967295, 2, FULL)
+
+
 PARTS = [document01, table2, every_operand, spread, single_precision, bits_to_the_right, wrong_words, each_bit, wrong_neighbours,
-         last_piece, full_roms, limits, order]
+         last_piece, full_roms, limits, order, formats, full_words, full_operands, wrong_full_words, each_full_bit, last_full_word,
+         filling_bits, full_refusals]
 
 
 def script():

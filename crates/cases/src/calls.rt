@@ -2,6 +2,7 @@
 
 use crate::command::{Call, Operands};
 use answers::Refused;
+use format::{Form, Format};
 use operand::Operand;
 use precision::Precision;
 use std::io;
@@ -9,39 +10,42 @@ use std::ops::RangeInclusive;
 use units::Ulps;
 
 // Builds an image in the lent bytes.
-pub(crate) fn build(rt: &impl Print, k: Precision, image: &mut [u8]) -> io::Result<()> {
-    answer(rt, building::build(k, image).map(|()| 0))
+pub(crate) fn build(rt: &impl Print, format: Format, image: &mut [u8]) -> io::Result<()> {
+    answer(rt, building::build(format, image).map(|()| 0))
 }
 
 // Makes the calls of a line that only prints.
 pub(crate) fn run(rt: &impl Print, call: Call, image: &[u8]) -> io::Result<()> {
     match call {
         Call::Precision(ks) => each(rt, ks, |k| limits(rt, Precision(k))),
-        Call::Check(ks) => each(rt, ks, |k| {
-            answer(rt, checking::check(Precision(k), image).map(|()| 0))
+        Call::Format(ks, form) => each(rt, ks, |k| sizes(rt, of(k, form))),
+        Call::Check(ks, form) => each(rt, ks, |k| {
+            answer(rt, checking::check(of(k, form), image).map(|()| 0))
         }),
-        Call::Node(js, k) => each(rt, js, |j| {
-            answer(rt, reading::node(k, image, j).map(|c| c.0))
+        Call::Node(js, format) => each(rt, js, |j| {
+            answer(rt, reading::node(format, image, j).map(|c| c.0))
         }),
-        Call::Kept(js, k) => each(rt, js, |j| {
-            answer(rt, binding::bound_node(k, image, j).map(|c| c.0))
+        Call::Kept(js, format) => each(rt, js, |j| {
+            answer(rt, binding::bound_node(format, image, j).map(|c| c.0))
         }),
-        Call::Word(js, k) => each(rt, js, |j| bytes(rt, reading::word_bytes(k, image, j))),
+        Call::Word(js, format) => each(rt, js, |j| {
+            bytes(rt, reading::word_bytes(format, image, j))
+        }),
         Call::Rule(js, k) => each(rt, js, |j| {
             println!(rt; " {}", nodes::value(k, j).map_or(0, |c| c.0))
         }),
         Call::Eight(js) => each(rt, js, |j| eight(rt, j)),
         Call::Invert(xs) => each_operand(xs, |x| {
-            reciprocal(rt, x, inverting::reciprocal(xs.k, image, x))
+            reciprocal(rt, x, inverting::reciprocal(xs.format, image, x))
         }),
         Call::Around(xs) => each_operand(xs, |x| {
             for x in around(x) {
-                reciprocal(rt, x, inverting::reciprocal(xs.k, image, x))?;
+                reciprocal(rt, x, inverting::reciprocal(xs.format, image, x))?;
             }
             Ok(())
         }),
         Call::Through(xs) => each_operand(xs, |x| {
-            reciprocal(rt, x, binding::bound_reciprocal(xs.k, image, x))
+            reciprocal(rt, x, binding::bound_reciprocal(xs.format, image, x))
         }),
         Call::Show => bytes(rt, image),
     }
@@ -93,6 +97,26 @@ fn limits(rt: &impl Print, k: Precision) -> io::Result<()> {
         Precision::LONGEST_IMAGE,
         operand::LEAST_BITS,
         operand::MOST_BITS
+    )
+}
+
+// Precision k in a form.
+fn of(k: u32, form: Form) -> Format {
+    Format {
+        precision: Precision(k),
+        form,
+    }
+}
+
+// What a format says of itself, and the longest image of each form.
+fn sizes(rt: &impl Print, format: Format) -> io::Result<()> {
+    println!(rt;
+        " {} {} {} {} {}",
+        format.word_width(),
+        format.word_count().unwrap_or(0),
+        format.image_length().unwrap_or(0),
+        Format::LONGEST_PLAIN,
+        Format::LONGEST_FULL
     )
 }
 

@@ -1,5 +1,6 @@
 // Reading the script: a command to a line, then its numbers, a space before each.
 
+use format::{Form, Format, FormatNumbers};
 use operand::Operand;
 use precision::Precision;
 use std::ops::RangeInclusive;
@@ -11,7 +12,7 @@ pub(crate) enum Command<'a> {
     Hex(&'a [u8]),
     Xor { place: usize, mask: u8 },
     Length(usize),
-    Build(Precision),
+    Build(Format),
     Print(Call),
 }
 
@@ -19,10 +20,11 @@ pub(crate) enum Command<'a> {
 #[derive(Drop)]
 pub(crate) enum Call {
     Precision(RangeInclusive<u32>),
-    Check(RangeInclusive<u32>),
-    Node(RangeInclusive<u32>, Precision),
-    Kept(RangeInclusive<u32>, Precision),
-    Word(RangeInclusive<u32>, Precision),
+    Format(RangeInclusive<u32>, Form),
+    Check(RangeInclusive<u32>, Form),
+    Node(RangeInclusive<u32>, Format),
+    Kept(RangeInclusive<u32>, Format),
+    Word(RangeInclusive<u32>, Format),
     Rule(RangeInclusive<u32>, Precision),
     Eight(RangeInclusive<u32>),
     Invert(Operands),
@@ -31,10 +33,10 @@ pub(crate) enum Call {
     Show,
 }
 
-// The operands of a call at precision k: the first one, how many there are, and how far each is above the one before it.
+// The operands of a call on a table: the first one, how many there are, and how far each is above the one before it.
 #[derive(Clone, Copy)]
 pub(crate) struct Operands {
-    pub(crate) k: Precision,
+    pub(crate) format: Format,
     pub(crate) first: Operand,
     pub(crate) count: u32,
     pub(crate) step: u64,
@@ -59,24 +61,25 @@ impl<'a> Command<'a> {
                 mask: low_byte(b),
             },
             b"length" => Command::Length(low_half(a) as usize),
-            b"build" => Command::Build(Precision(low_half(a))),
+            b"build" => Command::Build(format_of(low_half(a), low_half(b))),
             _ => Command::Print(Call::parse(word, numbers)?),
         })
     }
 }
 
 impl Call {
-    fn parse(word: &[u8], numbers: [u64; 5]) -> Option<Self> {
-        let [first, last, k, ..] = numbers.map(low_half);
+    fn parse(word: &[u8], numbers: [u64; 6]) -> Option<Self> {
+        let [first, last, third, fourth, ..] = numbers.map(low_half);
         let span = first..=last.max(first);
-        let k = Precision(k);
+        let format = format_of(third, fourth);
         Some(match word {
             b"precision" => Call::Precision(span),
-            b"check" => Call::Check(span),
-            b"node" => Call::Node(span, k),
-            b"kept" => Call::Kept(span, k),
-            b"word" => Call::Word(span, k),
-            b"rule" => Call::Rule(span, k),
+            b"format" => Call::Format(span, Form::from(third)),
+            b"check" => Call::Check(span, Form::from(third)),
+            b"node" => Call::Node(span, format),
+            b"kept" => Call::Kept(span, format),
+            b"word" => Call::Word(span, format),
+            b"rule" => Call::Rule(span, Precision(third)),
             b"eight" => Call::Eight(span),
             b"invert" => Call::Invert(Operands::from(numbers)),
             b"around" => Call::Around(Operands::from(numbers)),
@@ -87,10 +90,10 @@ impl Call {
     }
 }
 
-impl From<[u64; 5]> for Operands {
-    fn from([k, n, x, count, step]: [u64; 5]) -> Self {
+impl From<[u64; 6]> for Operands {
+    fn from([k, n, x, count, step, form]: [u64; 6]) -> Self {
         Operands {
-            k: Precision(low_half(k)),
+            format: format_of(low_half(k), low_half(form)),
             first: Operand { n: low_half(n), x },
             count: low_half(count),
             step,
@@ -98,9 +101,14 @@ impl From<[u64; 5]> for Operands {
     }
 }
 
-// The numbers of a line, 0 where there is none. No command has more than five.
-fn numbers(text: &[u8]) -> [u64; 5] {
-    let mut numbers = [0; 5];
+// The format of the two numbers of a line.
+fn format_of(precision: u32, form: u32) -> Format {
+    Format::from(FormatNumbers { precision, form })
+}
+
+// The numbers of a line, 0 where there is none. No command has more than six.
+fn numbers(text: &[u8]) -> [u64; 6] {
+    let mut numbers = [0; 6];
     for (number, word) in numbers.iter_mut().zip(text.split(|&b| b == b' ')) {
         *number = word.iter().fold(0, |v, &b| with_digit(v, b));
     }

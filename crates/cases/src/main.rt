@@ -2,7 +2,8 @@
 // another program, tests/reference.py.
 //
 // There is a room of 16384 bytes, of which the front is lent to each call. A line of the script is a command, a word, and its
-// numbers, a space before each. It is printed as it stands. To make the lent bytes:
+// numbers, a space before each. It is printed as it stands. A number that is left out is 0. FORM, the last number of many lines, is 0 for plain words
+// and anything else for full ones. To make the lent bytes:
 //     fill B D      byte i of the room is B + D × i modulo 256; without D every byte is B
 //     hex HH HH ..  these bytes stand at the front, and are what is lent
 //     xor I B       the bits of B are changed in byte I
@@ -11,16 +12,18 @@
 //     show
 // Calls, each made with every number from FIRST to LAST, or with FIRST alone where there is no LAST above it. Each time a line is
 // printed: the number, and the numbers that the call answered.
-//     precision FIRST LAST, check FIRST LAST (precisions)
-//     node FIRST LAST K, word FIRST LAST K, rule FIRST LAST K, eight FIRST LAST (nodes; `eight` has those of precision 8)
-//     kept FIRST LAST K (the same as `node`, through a bound table)
+//     precision FIRST LAST (precisions)
+//     format FIRST LAST FORM, check FIRST LAST FORM (precisions)
+//     node FIRST LAST K FORM, word FIRST LAST K FORM (nodes)
+//     kept FIRST LAST K FORM (the same as `node`, through a bound table)
+//     rule FIRST LAST K, eight FIRST LAST (nodes, of no image; `eight` has those of precision 8)
 // One call is made with a single number, and its answer is printed alone:
-//     build K
+//     build K FORM
 // A call is made with COUNT operands of N fraction bits, or with one where there is no COUNT. The first is X, and each other is STEP
 // above the one before it, modulo 2^64. Each time a line is printed: the operand, and the numbers that the call answered.
-//     invert K N X COUNT STEP
-//     around K N X COUNT STEP (the same with both neighbours of each operand: one less, itself, one more)
-//     through K N X COUNT STEP (the same as `invert`, through a bound table)
+//     invert K N X COUNT STEP FORM
+//     around K N X COUNT STEP FORM (the same with both neighbours of each operand: one less, itself, one more)
+//     through K N X COUNT STEP FORM (the same as `invert`, through a bound table)
 // A line whose first word is no command, such as one that begins with '#', is printed alone.
 #![tactic(auto)]
 
@@ -33,7 +36,7 @@ use room::Room;
 use std::io;
 
 fn main(rt: HostRuntime) -> io::Result<()> {
-    let mut input = [0; 65536];
+    let mut input = [0; 131072];
     let n = lines::read_full(&mut rt.stdin(), &mut input);
     run(&rt, &input[..n])
 }
@@ -60,9 +63,9 @@ fn obey(rt: &impl Print, room: &mut Room, command: Command) -> io::Result<()> {
         Command::Hex(pairs) => room.put_hex(pairs),
         Command::Xor { place, mask } => room.flip(place, mask),
         Command::Length(n) => room.lend(n),
-        Command::Build(k) => {
+        Command::Build(format) => {
             if let Some(image) = room.lent_mut() {
-                calls::build(rt, k, image)?;
+                calls::build(rt, format, image)?;
             }
         }
         Command::Print(call) => {
