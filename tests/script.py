@@ -349,15 +349,17 @@ def formats():
 
 
 def full_words():
-    yield "# Full words: each image, its nodes and the bytes of its words; then it is taken for one of plain words. In a buffer one byte short no"
-    yield "# call is served, but one of plain words is, and these are then taken for full ones"
+    yield "# Full words: each image, its nodes, but only some at k = 10 and 11, and the bytes of its words, all up to k = 6; then it is taken for one of"
+    yield "# plain words. In a buffer one byte short no call is served, but one of plain words is, and these are then taken for full ones"
     for k in PRECISIONS:
         top, own = 2 ** k, size(k, FULL)
         yield from image(k, 90, FULL)
         yield "show"
         yield check(k, FULL)
-        yield from both(node(0, top + 1, k, FULL)) if k < 7 else [node(0, top + 1, k, FULL)]
-        for first, to in [(0, top + 1)] if k < 7 else [(0, 1), (top // 2 - 1, top // 2), (top - 2, top + 1)]:
+        some, every = [(0, 1), (top // 2 - 1, top // 2), (top - 2, top + 1)], [(0, top + 1)]
+        for first, to in some if k in (10, 11) else every:
+            yield from both(node(first, to, k, FULL)) if k < 7 else [node(first, to, k, FULL)]
+        for first, to in every if k < 7 else some:
             yield word(first, to, k, FULL)
         yield check(k)
         yield node(top - 1, top, k)
