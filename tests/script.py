@@ -1,5 +1,5 @@
 #!/usr/bin/env python3
-"""Writes the cases for reciprocals and full ROMs in crates/cases/stdin, the script of the program `cases`, whose commands
+"""Writes the cases for reciprocals, full ROMs and full words in crates/cases/stdin, the script of the program `cases`, whose commands
 crates/cases/src/main.rt describes. What stands down to the mark is kept, and is changed there. Below it come the cases of tests/document01.txt, without
 their answers, and those that are made here.
 
