@@ -152,13 +152,15 @@ def reciprocals(output):
 
 
 def less_than_an_ulp():
-    """Each reciprocal that the program gives, and there are many, also of short operands, is less than an ulp from the exact one."""
-    given = [(k, n, x, value) for _, k, n, x, number, _, value in reciprocals(printed()) if number == 0]
-    for k, n, x, value in given:
+    """Each reciprocal that the program gives, and there are many, also of short operands and by full words, is less than an ulp from the exact one."""
+    given = [(full, k, n, x, value) for (_, full), k, n, x, number, _, value in reciprocals(printed()) if number == 0]
+    for _, k, n, x, value in given:
         if abs(Fraction(value, 2 ** (2 * k + 1)) - Fraction(2 ** n, x)) >= Fraction(1, 2 ** (2 * k + 1)):
             return f"precision {k}, {x} with {n} fraction bits: {value}"
-    short = sum(n < 2 * k + 3 for k, n, _, _ in given)
-    return None if len(given) > 5000 and short > 3000 else f"only {len(given)} are given, and {short} of short operands"
+    short = sum(n < 2 * k + 3 for _, k, n, _, _ in given)
+    full = sum(full for full, *_ in given)
+    enough = len(given) > 5000 and short > 3000 and full > 2000
+    return None if enough else f"only {len(given)} are given, {short} of short operands, {full} by full words"
 
 
 def bits_to_the_right():
@@ -429,7 +431,7 @@ def tests():
         yield f"cases: 400 random lines, seed {seed}", lambda seed=seed: random_scripts(seed)
     yield "cases: each reciprocal given is less than an ulp off", less_than_an_ulp
     yield "cases: operands with the same first 2k + 3 fraction bits get the same answer", bits_to_the_right
-    yield "cases: a bound table gives what the plain calls give", bound_table
+    yield "cases: a bound table gives what the calls on its image give", bound_table
     yield "Table 1 of document 002: the reference", table1_reference
     yield "Table 1 of document 002: the program", table1_program
     yield "Table 2 of document 002: the reference", table2_reference

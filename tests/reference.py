@@ -278,7 +278,7 @@ class Cases:
         operands = [x + step * number for number in range(max(1, count))]
         return "".join(self.invert(k, n, operand - 1, 3, 1, form) for operand in operands)
 
-    kept, through = node, invert  # a bound table gives what the plain calls give
+    kept, through = node, invert  # a bound table gives what the calls on its image give
 
     def rule(self, first, last, k):
         return self.each(first, last, lambda j: row(value_or_0(k, j)))

@@ -24,13 +24,13 @@ TOP = 2 ** 64 - 1
 size = reference.length
 
 
-def last(form):
+def ending(form):
     """The form as the last number of a line, which plain words leave out."""
     return f" {form}" if form else ""
 
 
 def build(k, form=PLAIN):
-    return f"build {k}{last(form)}"
+    return f"build {k}{ending(form)}"
 
 
 def image(k, fill=0, form=PLAIN, more=0):
@@ -43,7 +43,7 @@ def check(k, form=PLAIN):
 
 
 def operands(word, k, n, x, count, step, form):
-    return f"{word} {k} {n} {x % 2 ** 64}" + (f" {count} {step}" if count > 1 or form else "") + last(form)
+    return f"{word} {k} {n} {x % 2 ** 64}" + (f" {count} {step}" if count > 1 or form else "") + ending(form)
 
 
 def invert(k, n, x, count=1, step=0, form=PLAIN):
@@ -55,11 +55,11 @@ def around(k, n, x, count=1, step=0, form=PLAIN):
 
 
 def node(first, to, k, form=PLAIN):
-    return f"node {first} {to} {k}{last(form)}"
+    return f"node {first} {to} {k}{ending(form)}"
 
 
 def word(first, to, k, form=PLAIN):
-    return f"word {first} {to} {k}{last(form)}"
+    return f"word {first} {to} {k}{ending(form)}"
 
 
 def both(call):
@@ -277,20 +277,20 @@ def full_roms():
             mask = 1 << (k + length) % 8
             yield f"fill {100 + k} 1"
             yield f"length {length}"
-            yield f"build {k}"
+            yield build(k)
             if length < 400:
                 yield "show"
-            yield f"check {k}"
+            yield check(k)
             for at in (last, middle, first, middle, last, first, middle):
                 yield f"xor {at} {mask}"
-                yield f"check {k}"
+                yield check(k)
             yield from both(node(2 ** k - 1, 2 ** k, k))
-            yield f"word {2 ** k - 1} {2 ** k - 1} {k}"
+            yield word(2 ** k - 1, 2 ** k - 1, k)
             yield from both(invert(k, k, 2 ** (k + 1) - 1))
             yield flip_last(k, (length + k) % 2 ** k)
-            yield f"check {k}"
+            yield check(k)
             yield f"xor {middle} {mask}"
-            yield f"check {k}"
+            yield check(k)
 
 
 # ---- limits
@@ -341,9 +341,9 @@ def order():
 def formats():
     yield "# What a format says of itself; a form is full for each number but 0"
     for form in (PLAIN, FULL):
-        yield f"format 0 14{last(form)}"
+        yield f"format 0 14{ending(form)}"
         for k in (32, 2147483647, 2147483648, 4294967295):
-            yield f"format {k} 0{last(form)}"
+            yield f"format {k} 0{ending(form)}"
     for form in (2, 3, 256, 65536, 2147483648, 4294967295):
         yield f"format 1 2 {form}"
 
