@@ -23,12 +23,12 @@ static void served(uint32_t number)
 
 static void build(uint32_t k)
 {
-    served(yildegga_build(k, image, sizeof image).number);
+    served(yildegga_build(YILDEGGA_PLAIN(k), image, sizeof image).number);
 }
 
 static uint64_t reciprocal(uint32_t k, uint64_t t)
 {
-    yildegga_reciprocal_given given = yildegga_reciprocal(k, image, sizeof image, 2 * k + 3, t);
+    yildegga_reciprocal_given given = yildegga_reciprocal(YILDEGGA_PLAIN(k), image, sizeof image, 2 * k + 3, t);
     served(given.number);
     return given.value.count;
 }
@@ -96,7 +96,7 @@ static void sweep(uint32_t k)
     const uint64_t first = UINT64_C(1) << (2 * k + 3);
 
     for (uint32_t j = 0; j <= UINT32_C(1) << k; j++) {
-        yildegga_node_read node = yildegga_node(k, image, sizeof image, j);
+        yildegga_node_read node = yildegga_node(YILDEGGA_PLAIN(k), image, sizeof image, j);
         served(node.number);
         printf("node %" PRIu32 " %" PRIu64 "\n", j, node.value.count);
     }

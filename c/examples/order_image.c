@@ -1,6 +1,6 @@
-/* Orders a ROM: builds the image of precision K with zeros behind it to SIZE bytes, or the image alone where no SIZE is given, writes
- * it to FILE, and prints K and the bytes written. The exit status is 1 where the library turns the call back, and 2 where the
- * arguments, the memory, the file or the output do not allow it.
+/* Orders a ROM: builds the image of precision K in plain words, with zeros behind it to SIZE bytes, or the image alone where no SIZE is
+ * given, writes it to FILE, and prints K and the bytes written. The exit status is 1 where the library turns the call back, and 2 where
+ * the arguments, the memory, the file or the output do not allow it.
  *
  *     order_image K FILE [SIZE]
  */
@@ -14,7 +14,7 @@
 /* Builds the ROM in the lent bytes, writes them to the file and prints the line. It gives the exit status. */
 static int order(uint32_t k, const char *name, uint8_t *rom, size_t size)
 {
-    yildegga_done built = yildegga_build(k, rom, size);
+    yildegga_done built = yildegga_build(YILDEGGA_PLAIN(k), rom, size);
     if (built.number != YILDEGGA_SERVED)
         return turned_back("order_image", built.number);
 
@@ -41,7 +41,7 @@ int main(int argc, char **argv)
     if (!read_number_32(argv[1], strlen(argv[1]), &k))
         return not_called("order_image", "K is not a number from 1 to 12");
     if (argc == 3)
-        size = yildegga_image_length(k);
+        size = yildegga_image_length(YILDEGGA_PLAIN(k));
     else if (!read_number(argv[3], strlen(argv[3]), SIZE_MAX, &size))
         return not_called("order_image", "SIZE is not a number below 2^64");
 

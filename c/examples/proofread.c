@@ -1,4 +1,4 @@
-/* Reads a mask file back as a full ROM of precision K, an image with zeros behind it to the file's end, and prints `right`, or its first
+/* Reads a mask file back as a full ROM of precision K, an image of plain words with zeros behind it to its end, and prints `right`, or its first
  * wrong word with the bytes that hold it and what they should be, or, where every word is right, the first byte past the image that is
  * not zero. The file is read whole, whatever its size. The exit status is 1 where a word or a byte past the image is wrong or the library
  * turns the call back, and 2 where the arguments, the memory, the file or the output do not allow it.
@@ -53,9 +53,9 @@ static void print_hex(const uint8_t *bytes, size_t count)
 static void print_word(uint32_t k, const uint8_t *rom, size_t length, uint32_t j)
 {
     uint8_t right[YILDEGGA_LONGEST_IMAGE];
-    yildegga_build(k, right, sizeof right); /* served: k is a precision, and the longest image has room */
-    yildegga_part at = yildegga_word_bytes(k, rom, length, j);
-    yildegga_node_read node = yildegga_node(k, right, sizeof right, j);
+    yildegga_build(YILDEGGA_PLAIN(k), right, sizeof right); /* served: k is a precision, and the longest image has room */
+    yildegga_part at = yildegga_word_bytes(YILDEGGA_PLAIN(k), rom, length, j);
+    yildegga_node_read node = yildegga_node(YILDEGGA_PLAIN(k), right, sizeof right, j);
     printf("wrong word at node %" PRIu32 ", bytes %zu to %zu:", j, at.offset, at.offset + at.count - 1);
     print_hex(rom + at.offset, at.count);
     printf("\nshould be");
@@ -66,7 +66,7 @@ static void print_word(uint32_t k, const uint8_t *rom, size_t length, uint32_t j
 /* Checks the bytes of a file and prints what is found. It gives the exit status. */
 static int proofread(uint32_t k, const uint8_t *rom, size_t length)
 {
-    yildegga_done checked = yildegga_check(k, rom, length);
+    yildegga_done checked = yildegga_check(YILDEGGA_PLAIN(k), rom, length);
     switch (checked.number) {
     case YILDEGGA_SERVED:
         printf("right\n");
@@ -77,7 +77,7 @@ static int proofread(uint32_t k, const uint8_t *rom, size_t length)
     case YILDEGGA_TAIL_NOT_ZERO:
         printf("wrong tail at byte %" PRIu64 ":", checked.place);
         print_hex(rom + checked.place, 1);
-        printf("\nshould be 00: the image is bytes 0 to %zu\n", yildegga_image_length(k) - 1);
+        printf("\nshould be 00: the image is bytes 0 to %zu\n", yildegga_image_length(YILDEGGA_PLAIN(k)) - 1);
         break;
     default:
         return turned_back("proofread", checked.number);

@@ -26,7 +26,7 @@ static bool answer(const char *text, size_t length)
         status = NOT_CALLED;
         return false;
     }
-    yildegga_reciprocal_given given = yildegga_reciprocal(k, image, sizeof image, n, x);
+    yildegga_reciprocal_given given = yildegga_reciprocal(YILDEGGA_PLAIN(k), image, sizeof image, n, x);
     if (given.number == YILDEGGA_SERVED) {
         printf("%" PRIu64 " %" PRIu64 "\n", x, given.value.count);
     } else {
@@ -44,7 +44,7 @@ int main(int argc, char **argv)
         return not_called("reciprocals", "K is not a number from 1 to 12");
     if (!read_number_32(argv[2], strlen(argv[2]), &n))
         return not_called("reciprocals", "N is not a number from 1 to 63");
-    yildegga_done built = yildegga_build(k, image, sizeof image);
+    yildegga_done built = yildegga_build(YILDEGGA_PLAIN(k), image, sizeof image);
     if (built.number != YILDEGGA_SERVED)
         return turned_back("reciprocals", built.number);
 

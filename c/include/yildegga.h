@@ -1,12 +1,16 @@
 /* Yildegga: reciprocal tables, and the reciprocals taken from them, for C99 and C++.
  *
  * A precision k from 1 to 12 has a node j for each j from 0 to 2^k, whose value is 2^(3k+3) / (2^k + j), rounded up and counted
- * in table units of 1 / 2^(2k+3). Its image is the words of the nodes below 2^k, of 2k + 2 bits each, packed with the most
- * significant bit first. A buffer may be longer than the image: the bytes past it are its tail, and an image with zeros to the
- * buffer's end is a full ROM. yildegga_build writes one and yildegga_check asks for one; the other calls take the image alone,
- * whatever the tail holds. An operand x with n fraction bits, 1 to 63 at every k, stands for x / 2^n. The first 2k + 3 of them are
+ * in table units of 1 / 2^(2k+3). Its image is words of equal width, packed in node order with the most significant bit first, in one
+ * of two forms. Plain words have 2k + 2 bits and leave out the node's leading one, and node 2^k has none: its value is implied. Full
+ * words have 2k + 4 bits and hold the node itself, for every node; zero bits, the filling bits, follow the last one to its byte's
+ * end. A call is told which table by its format, precision and form: YILDEGGA_PLAIN(k) or YILDEGGA_FULL(k).
+ *
+ * A buffer may be longer than the image: the bytes past it are its tail, and an image with zeros to the buffer's end is a full ROM, in
+ * either form. yildegga_build writes one and yildegga_check asks for one; the other calls take the words alone, whatever the filling
+ * bits and the tail hold. An operand x with n fraction bits, 1 to 63 at every k, stands for x / 2^n. The first 2k + 3 of them are
  * looked at: further ones are cut off, and where x has fewer, it is padded with zeros. Its reciprocal is counted in ulps of
- * 1 / 2^(2k+1) and lies less than one ulp from 2^n / x, at every n.
+ * 1 / 2^(2k+1), lies less than one ulp from 2^n / x, at every n, and is the same by either form.
  *
  * No call has a precondition on its numbers. What breaks a limit is turned back with the number of the first refusal that
  * applies, in the order of their numbers, and with every lent byte left as it was. These promises are proved. What the proofs
@@ -42,28 +46,55 @@ extern "C" {
 /* The numbers of an answer: served, or the refusal. */
 #define YILDEGGA_SERVED 0u
 #define YILDEGGA_PRECISION 1u      /* k is below 1 or above 12 */
-#define YILDEGGA_SHORT_BUFFER 2u   /* the buffer is shorter than the image of k */
+#define YILDEGGA_SHORT_BUFFER 2u   /* the buffer is shorter than the image of the format */
 #define YILDEGGA_NODE_NUMBER 3u    /* j is above 2^k */
 #define YILDEGGA_FRACTION_BITS 4u  /* n is below 1 or above 63 */
 #define YILDEGGA_NOT_NORMALISED 5u /* x is not from 2^n to 2^(n+1) - 1 */
 #define YILDEGGA_WRONG_WORD 6u     /* a word that the call reads is not the construction's: the place is the lowest such node */
-#define YILDEGGA_TAIL_NOT_ZERO 7u  /* a byte past the image is not zero: the place is the lowest such byte's number, from 0 at the
-                                      buffer's start */
+#define YILDEGGA_TAIL_NOT_ZERO 7u  /* a filling bit or a byte past the image is not zero: the place is the number of the lowest byte
+                                      that has such a bit, from 0 at the buffer's start */
 
 /* The limits. */
 #define YILDEGGA_LEAST_PRECISION 1u
 #define YILDEGGA_GREATEST_PRECISION 12u
-#define YILDEGGA_LONGEST_IMAGE 13312u /* bytes, at precision 12 */
+#define YILDEGGA_LONGEST_IMAGE 13312u      /* bytes of plain words, at precision 12 */
+#define YILDEGGA_FULL_LONGEST_IMAGE 14340u /* bytes of full words, at precision 12 */
 #define YILDEGGA_LEAST_FRACTION_BITS 1u
 #define YILDEGGA_MOST_FRACTION_BITS 63u
 #define YILDEGGA_TABLE_UNITS_IN_ULP 4u
 
-/* The limits that depend on k, as constant expressions where k is constant. IMAGE_LENGTH(k), 2^k * (2k + 2) / 8 bytes, is 1, 3, 8,
-   20, 48, 112, 256, 576, 1280, 2816, 6144 and 13312 at k = 1 to 12, and 0 elsewhere; the others are for these k alone. IMAGE_LENGTH uses its
-   argument more than once. */
+/* The limits that depend on k, as constant expressions where k is constant: those of plain words, and with FULL those of full ones.
+   IMAGE_LENGTH(k), 2^k * (2k + 2) / 8 bytes, is 1, 3, 8, 20, 48, 112, 256, 576, 1280, 2816, 6144 and 13312 at k = 1 to 12.
+   FULL_IMAGE_LENGTH(k), (2^k + 1) * (2k + 4) / 8 bytes, rounded up, is 3, 5, 12, 26, 58, 130, 291, 643, 1411, 3075, 6660 and 14340.
+   Both are 0 elsewhere and use their argument more than once; the others are for these k alone. */
 #define YILDEGGA_IMAGE_LENGTH(k) ((k) < 1 || (k) > 12 ? 0u : (((k) + 1u) << ((k) & 15u)) / 4u) /* & 15u: no shift too far */
+#define YILDEGGA_FULL_IMAGE_LENGTH(k) ((k) < 1 || (k) > 12 ? 0u : (((k) + 2u) * ((1u << ((k) & 15u)) + 1u) + 3u) / 4u)
 #define YILDEGGA_LAST_NODE(k) (1u << (k))
+#define YILDEGGA_WORD_COUNT(k) (1u << (k))
+#define YILDEGGA_FULL_WORD_COUNT(k) ((1u << (k)) + 1u)
 #define YILDEGGA_WORD_BITS(k) (2u * (k) + 2u)
+#define YILDEGGA_FULL_WORD_BITS(k) (2u * (k) + 4u)
+
+/* The forms of words. Any number but that of plain words stands for full ones. */
+#define YILDEGGA_PLAIN_WORDS 0u
+#define YILDEGGA_FULL_WORDS 1u
+
+/* The table that a call is asked for. It is made by YILDEGGA_PLAIN(k) or YILDEGGA_FULL(k), expressions of this type for any number k:
+   a later version may have more members, for which these stand as they are. */
+typedef struct { uint32_t precision; uint32_t form; } yildegga_format;
+
+#ifdef __cplusplus
+static inline yildegga_format yildegga_format_of(uint32_t precision, uint32_t form) /* C++ has no compound literals */
+{
+    yildegga_format format = {precision, form};
+    return format;
+}
+#define YILDEGGA_PLAIN(k) (yildegga_format_of((k), YILDEGGA_PLAIN_WORDS))
+#define YILDEGGA_FULL(k) (yildegga_format_of((k), YILDEGGA_FULL_WORDS))
+#else
+#define YILDEGGA_PLAIN(k) ((yildegga_format){(k), YILDEGGA_PLAIN_WORDS})
+#define YILDEGGA_FULL(k) ((yildegga_format){(k), YILDEGGA_FULL_WORDS})
+#endif
 
 /* Counts of the two units are separate types, so that the one is never taken for the other. */
 typedef struct { uint64_t count; } yildegga_table_units; /* 1 / 2^(2k+3) each */
@@ -83,38 +114,42 @@ typedef char yildegga_laid_out_as_in_the_archive[
     sizeof(yildegga_done) == 24 && offsetof(yildegga_done, place) == 8 && offsetof(yildegga_done, value) == 16 &&
     sizeof(yildegga_node_read) == 24 && offsetof(yildegga_node_read, place) == 8 && offsetof(yildegga_node_read, value) == 16 &&
     sizeof(yildegga_reciprocal_given) == 24 && offsetof(yildegga_reciprocal_given, place) == 8 &&
-    offsetof(yildegga_reciprocal_given, value) == 16 && sizeof(yildegga_part) == 16 && offsetof(yildegga_part, count) == 8 ? 1 : -1];
+    offsetof(yildegga_reciprocal_given, value) == 16 && sizeof(yildegga_part) == 16 && offsetof(yildegga_part, count) == 8 &&
+    sizeof(yildegga_format) == 8 && offsetof(yildegga_format, form) == 4 ? 1 : -1];
 
-/* The bytes of the image of precision k; 0 where k is no precision. */
-size_t yildegga_image_length(uint32_t k);
+/* The bytes of the image of a format; 0 where its precision is none. */
+size_t yildegga_image_length(yildegga_format format);
 
-/* Makes the buffer a full ROM of precision k, whatever it held: the image, and zeros to the last of the `length` bytes.
+/* Makes the buffer a full ROM of the format, whatever it held: the image, and zeros to the last of the `length` bytes.
    It computes with doubles, the one call that does, and judges by whole numbers what they give, so that the bytes are the same in
    every rounding mode. It leaves the mode as it is, and may raise the inexact flag.
    Refusals: 1, 2. */
-yildegga_done yildegga_build(uint32_t k, uint8_t *image, size_t length);
+yildegga_done yildegga_build(yildegga_format format, uint8_t *image, size_t length);
 
-/* Serves exactly a full ROM of precision k: the image, and zeros to the last of the `length` bytes. The place of refusal 6 is the
-   node of the first wrong word, and that of refusal 7 the number of the first byte past the image that is not zero.
+/* Serves exactly a full ROM of the format: the image, and zeros to the last of the `length` bytes. The place of refusal 6 is the
+   node of the first wrong word, and that of refusal 7 the number of the first byte with a bit behind the last word that is not zero:
+   where a filling bit is set, it is the image's last byte.
    Refusals: 1, 2, 6, 7. */
-yildegga_done yildegga_check(uint32_t k, const uint8_t *image, size_t length);
+yildegga_done yildegga_check(yildegga_format format, const uint8_t *image, size_t length);
 
-/* The value of node j, judged by its own word alone; node 2^k has no word and its value is implied.
+/* The value of node j, judged by its own word alone. In the plain form node 2^k has no word and its value is implied; in the full
+   form it is read like the others.
    Refusals: 1, 2, 3, 6. */
-yildegga_node_read yildegga_node(uint32_t k, const uint8_t *image, size_t length, uint32_t j);
+yildegga_node_read yildegga_node(yildegga_format format, const uint8_t *image, size_t length, uint32_t j);
 
 /* Node j of precision 8, from 524288 table units at node 0 down to 262144 at node 256, out of a list of constants in the archive; 0,
    which no node is, where j is above 256. It takes no image. */
 yildegga_table_units yildegga_node_8(uint32_t j);
 
 /* Where the bytes stand that hold the word of node j, right or wrong; neighbours may share the first and the last of them.
-   None are shown where refusal 1 or 2 would apply, or j is above 2^k - 1. */
-yildegga_part yildegga_word_bytes(uint32_t k, const uint8_t *image, size_t length, uint32_t j);
+   None are shown where refusal 1 or 2 would apply, or j is above 2^k - 1 in the plain form, above 2^k in the full one. */
+yildegga_part yildegga_word_bytes(yildegga_format format, const uint8_t *image, size_t length, uint32_t j);
 
-/* The reciprocal of x with n fraction bits, from 2^(2k) to 2^(2k+1) ulps, by the nodes on both sides of x, whose words are judged.
+/* The reciprocal of x with n fraction bits, from 2^(2k) to 2^(2k+1) ulps, by the nodes on both sides of x, whose words are judged: all
+   of them in the full form, all but that of node 2^k in the plain one.
    The first 2k + 3 fraction bits decide it, and those that x lacks count as zeros.
    Refusals: 1, 2, 4, 5, 6. */
-yildegga_reciprocal_given yildegga_reciprocal(uint32_t k, const uint8_t *image, size_t length, uint32_t n, uint64_t x);
+yildegga_reciprocal_given yildegga_reciprocal(yildegga_format format, const uint8_t *image, size_t length, uint32_t n, uint64_t x);
 
 #ifdef __cplusplus
 }
