@@ -1,4 +1,5 @@
-// The calls that are compared: one interface under several prefixes. An answer has the 24 bytes of the library's own structs.
+// The calls that are compared: one interface under several prefixes, which takes a precision and has the calls once for each form. An answer has the
+// 24 bytes of the library's own structs. The library's calls are under these prefixes in library.h.
 #ifndef CALLS_H
 #define CALLS_H
 #include <stddef.h>
@@ -23,14 +24,14 @@ typedef struct {
 // Within careful.c and bytewise.c, which are compiled once for each level.
 #define CALL(name) JOIN(PREFIX, name)
 CALLS(PREFIX);
+CALLS(JOIN(PREFIX, full));
 #else
-CALLS(yildegga);
-answer yildegga_bound_node(uint32_t k, const uint8_t *image, size_t length, uint32_t j);
-answer yildegga_bound_reciprocal(uint32_t k, const uint8_t *image, size_t length, uint32_t n, uint64_t x);
 CALLS(careful_O2);
 CALLS(careful_O3);
 CALLS(bytewise_O2);
 CALLS(bytewise_O3);
+CALLS(careful_O2_full);
+CALLS(careful_O3_full);
 #endif
 
 #endif

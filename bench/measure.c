@@ -1,8 +1,8 @@
 // Times the library's calls beside the same calls in C and beside what a user would take instead. The contestants of a case run in
 // turns, round after round, on new operands in each. Of a contestant the least time is printed; a ratio is the median of the rounds' ratios.
 #define _POSIX_C_SOURCE 200809L
-#include "calls.h"
 #include "given.h"
+#include "library.h"
 #include "otherwise.h"
 #include "tails.h"
 #include "trusting.h"
@@ -78,40 +78,56 @@ typedef long pass(void);
         sink = last;                                          \
         return OPERANDS;                                      \
     }
-#define NODES(name, call)                                     \
-    static long name(void)                                    \
-    {                                                         \
-        uint64_t sum = 0;                                     \
-        for (int s = 0; s < OPERANDS; s++) {                  \
-            answer a = call(k, images[k], lengths[k], js[s]); \
-            sum += a.value ^ a.number;                        \
-        }                                                     \
-        sink = sum;                                           \
-        return OPERANDS;                                      \
+// The image of precision k that a call is lent.
+#define PLAIN images[k], lengths[k]
+#define FULL full_images[k], full_lengths[k]
+
+#define NODES(name, call, lent)                \
+    static long name##_node(void)              \
+    {                                          \
+        uint64_t sum = 0;                      \
+        for (int s = 0; s < OPERANDS; s++) {   \
+            answer a = call(k, lent, js[s]);   \
+            sum += a.value ^ a.number;         \
+        }                                      \
+        sink = sum;                            \
+        return OPERANDS;                       \
     }
-#define ANSWERED(name, call) PASSES(name, answer, a.value ^ a.number, call(k, images[k], lengths[k], n, x))
-#define MIXED(name, call) PASSES(name##_mixed, answer, a.value ^ a.number, call(k, images[k], lengths[k], ns[s], x))
+#define ANSWERED(name, call, lent) PASSES(name, answer, a.value ^ a.number, call(k, lent, n, x))
+#define MIXED(name, call, lent) PASSES(name##_mixed, answer, a.value ^ a.number, call(k, lent, ns[s], x))
 #define TRUSTED(name, call) PASSES(name, uint64_t, a, call)
 
-ANSWERED(library, yildegga_reciprocal)
-ANSWERED(bound, yildegga_bound_reciprocal)
-ANSWERED(careful_2, careful_O2_reciprocal)
-ANSWERED(careful_3, careful_O3_reciprocal)
-ANSWERED(bytewise_2, bytewise_O2_reciprocal)
-ANSWERED(bytewise_3, bytewise_O3_reciprocal)
-ANSWERED(apart, apart_reciprocal)
-MIXED(library, yildegga_reciprocal)
-MIXED(bound, yildegga_bound_reciprocal)
-MIXED(careful_2, careful_O2_reciprocal)
-MIXED(careful_3, careful_O3_reciprocal)
-MIXED(bytewise_2, bytewise_O2_reciprocal)
-MIXED(bytewise_3, bytewise_O3_reciprocal)
-NODES(library_node, yildegga_node)
-NODES(bound_node, yildegga_bound_node)
-NODES(careful_2_node, careful_O2_node)
-NODES(careful_3_node, careful_O3_node)
-NODES(bytewise_2_node, bytewise_O2_node)
-NODES(bytewise_3_node, bytewise_O3_node)
+ANSWERED(library, library_plain_reciprocal, PLAIN)
+ANSWERED(bound, library_plain_bound_reciprocal, PLAIN)
+ANSWERED(careful_2, careful_O2_reciprocal, PLAIN)
+ANSWERED(careful_3, careful_O3_reciprocal, PLAIN)
+ANSWERED(bytewise_2, bytewise_O2_reciprocal, PLAIN)
+ANSWERED(bytewise_3, bytewise_O3_reciprocal, PLAIN)
+ANSWERED(apart, apart_reciprocal, PLAIN)
+ANSWERED(full_library, library_full_reciprocal, FULL)
+ANSWERED(full_bound, library_full_bound_reciprocal, FULL)
+ANSWERED(full_careful_2, careful_O2_full_reciprocal, FULL)
+ANSWERED(full_careful_3, careful_O3_full_reciprocal, FULL)
+MIXED(library, library_plain_reciprocal, PLAIN)
+MIXED(bound, library_plain_bound_reciprocal, PLAIN)
+MIXED(careful_2, careful_O2_reciprocal, PLAIN)
+MIXED(careful_3, careful_O3_reciprocal, PLAIN)
+MIXED(bytewise_2, bytewise_O2_reciprocal, PLAIN)
+MIXED(bytewise_3, bytewise_O3_reciprocal, PLAIN)
+MIXED(full_library, library_full_reciprocal, FULL)
+MIXED(full_bound, library_full_bound_reciprocal, FULL)
+MIXED(full_careful_2, careful_O2_full_reciprocal, FULL)
+MIXED(full_careful_3, careful_O3_full_reciprocal, FULL)
+NODES(library, library_plain_node, PLAIN)
+NODES(bound, library_plain_bound_node, PLAIN)
+NODES(careful_2, careful_O2_node, PLAIN)
+NODES(careful_3, careful_O3_node, PLAIN)
+NODES(bytewise_2, bytewise_O2_node, PLAIN)
+NODES(bytewise_3, bytewise_O3_node, PLAIN)
+NODES(full_library, library_full_node, FULL)
+NODES(full_bound, library_full_bound_node, FULL)
+NODES(full_careful_2, careful_O2_full_node, FULL)
+NODES(full_careful_3, careful_O3_full_node, FULL)
 PASSES(kept, answer, a.value ^ a.number, kept_reciprocal(&table, n, x))
 TRUSTED(packed, trusting_packed(k, images[k], n, x))
 TRUSTED(flat, trusting_flat(k, tables[k], n, x))
@@ -137,45 +153,48 @@ static long floated_in_turn(void)
 }
 
 // Building and checking at precision k, and building all twelve in a row.
-static uint8_t built[LONGEST];
+static uint8_t built[FULL_LONGEST];
 
-#define BUILDS_ALL(name, prefix)                                           \
+#define BUILDS(name, prefix, lengths)                                      \
     static long name##_builds_all(void)                                    \
     {                                                                      \
         for (uint32_t each = LEAST; each <= GREATEST; each++)              \
             sink = JOIN(prefix, build)(each, built, lengths[each]).number; \
         return 1;                                                          \
+    }                                                                      \
+    __attribute__((unused)) static long name##_builds(void)                \
+    {                                                                      \
+        for (int s = 0; s < 4; s++)                                        \
+            sink = JOIN(prefix, build)(k, built, lengths[k]).number;       \
+        return 4;                                                          \
     }
-#define BUILDS(name, prefix)                                             \
-    static long name##_builds(void)                                      \
-    {                                                                    \
-        for (int s = 0; s < 4; s++)                                      \
-            sink = JOIN(prefix, build)(k, built, lengths[k]).number;     \
-        return 4;                                                        \
+#define CHECKS(name, prefix, lent)                       \
+    static long name##_checks(void)                      \
+    {                                                    \
+        for (int s = 0; s < 4; s++)                      \
+            sink = JOIN(prefix, check)(k, lent).number;  \
+        return 4;                                        \
     }
-#define CHECKS(name, prefix)                                             \
-    static long name##_checks(void)                                      \
-    {                                                                    \
-        for (int s = 0; s < 4; s++)                                      \
-            sink = JOIN(prefix, check)(k, images[k], lengths[k]).number; \
-        return 4;                                                        \
-    }
-BUILDS_ALL(library, yildegga)
-BUILDS_ALL(careful_2, careful_O2)
-BUILDS_ALL(careful_3, careful_O3)
-BUILDS_ALL(bytewise_2, bytewise_O2)
-BUILDS_ALL(bytewise_3, bytewise_O3)
-BUILDS_ALL(pairs, pairs)
-BUILDS_ALL(doubles, doubles)
-BUILDS_ALL(judged, judged)
-BUILDS(library, yildegga)
-BUILDS(careful_2, careful_O2)
-BUILDS(judged, judged)
-CHECKS(library, yildegga)
-CHECKS(careful_2, careful_O2)
-CHECKS(careful_3, careful_O3)
-CHECKS(bytewise_2, bytewise_O2)
-CHECKS(bytewise_3, bytewise_O3)
+BUILDS(library, library_plain, lengths)
+BUILDS(careful_2, careful_O2, lengths)
+BUILDS(careful_3, careful_O3, lengths)
+BUILDS(bytewise_2, bytewise_O2, lengths)
+BUILDS(bytewise_3, bytewise_O3, lengths)
+BUILDS(pairs, pairs, lengths)
+BUILDS(doubles, doubles, lengths)
+BUILDS(judged, judged, lengths)
+BUILDS(full_library, library_full, full_lengths)
+BUILDS(full_careful_2, careful_O2_full, full_lengths)
+BUILDS(full_careful_3, careful_O3_full, full_lengths)
+BUILDS(full_judged, judged_full, full_lengths)
+CHECKS(library, library_plain, PLAIN)
+CHECKS(careful_2, careful_O2, PLAIN)
+CHECKS(careful_3, careful_O3, PLAIN)
+CHECKS(bytewise_2, bytewise_O2, PLAIN)
+CHECKS(bytewise_3, bytewise_O3, PLAIN)
+CHECKS(full_library, library_full, FULL)
+CHECKS(full_careful_2, careful_O2_full, FULL)
+CHECKS(full_careful_3, careful_O3_full, FULL)
 
 // Full ROMs of precision 8, in one buffer: each pass builds or checks the first `rom_length` bytes, or the image alone, or has the tail alone.
 enum { ROM_K = 8, ROM_MOST = 1 << 24 };
@@ -196,8 +215,8 @@ static int rom_calls;
 #define IMAGES(name, prefix)                                                                     \
     ROM_PASS(name##_builds_image, sink = JOIN(prefix, build)(ROM_K, rom, lengths[ROM_K]).number) \
     ROM_PASS(name##_checks_image, sink = JOIN(prefix, check)(ROM_K, rom, lengths[ROM_K]).number)
-ROMS(library, yildegga)
-IMAGES(library, yildegga)
+ROMS(library, library_plain)
+IMAGES(library, library_plain)
 ROMS(careful_2, careful_O2)
 IMAGES(careful_2, careful_O2)
 ROMS(careful_3, careful_O3)
@@ -329,6 +348,63 @@ static void same_algorithm(void)
     five_row("  through the bound table", 1);
 }
 
+// The library and careful C at -O2 and -O3, all in the full form.
+static void three_head(const char *unit)
+{
+    printf("\n%-36s %8s %8s %8s %8s  %9s %9s\n", unit, "library", "(median)", "C -O2", "C -O3", "lib:C -O2", "lib:C -O3");
+}
+
+static void three_row(const char *name, double scale)
+{
+    printf("%-36s %8.2f %8.2f %8.2f %8.2f  %9.2f %9.2f\n", name, result[0].least * scale, result[0].median * scale, result[1].least * scale,
+           result[2].least * scale, result[1].ratio, result[2].ratio);
+}
+
+static void full_reciprocals(uint32_t precision, const char *order, uint32_t fraction_bits, void (*draw)(void))
+{
+    char name[64];
+    k = precision;
+    n = fraction_bits;
+    snprintf(name, sizeof name, "reciprocal, k = %u, %s", k, order);
+    CONTEST(draw, full_library, full_careful_2, full_careful_3);
+    three_row(name, 1);
+    CONTEST(draw, full_bound, full_careful_2, full_careful_3);
+    three_row("  through the bound table", 1);
+    CONTEST(draw, full_library_in_turn, full_careful_2_in_turn, full_careful_3_in_turn);
+    three_row("  in turn", 1);
+}
+
+static void full_words(void)
+{
+    printf("\nFull words: the same algorithm with the same checks in C of this form\n");
+    three_head("microseconds");
+    CONTEST(NULL, full_library_builds_all, full_careful_2_builds_all, full_careful_3_builds_all);
+    three_row("build, all twelve images in a row", 1e-3);
+    for (k = 8; k <= 12; k += 4) {
+        char name[64];
+        snprintf(name, sizeof name, "check, k = %u", k);
+        CONTEST(NULL, full_library_checks, full_careful_2_checks, full_careful_3_checks);
+        three_row(name, 1e-3);
+    }
+    three_head("nanoseconds a call");
+    for (uint32_t precision = 8; precision <= 12; precision += 4) {
+        full_reciprocals(precision, "random", 63, at_random);
+        full_reciprocals(precision, "sequential", 2 * precision + 3, in_sequence);
+    }
+    full_reciprocals(12, "n = 23, random", 23, at_random);
+    CONTEST(of_any_length, full_library_mixed, full_careful_2_mixed, full_careful_3_mixed);
+    three_row("reciprocal, k = 12, n and X random", 1);
+    CONTEST(of_any_length, full_bound_mixed, full_careful_2_mixed, full_careful_3_mixed);
+    three_row("  through the bound table", 1);
+    CONTEST(of_any_length, full_library_mixed_in_turn, full_careful_2_mixed_in_turn, full_careful_3_mixed_in_turn);
+    three_row("  in turn", 1);
+    n = 63;
+    CONTEST(at_random, full_library_node, full_careful_2_node, full_careful_3_node);
+    three_row("node, k = 12, random", 1);
+    CONTEST(at_random, full_bound_node, full_careful_2_node, full_careful_3_node);
+    three_row("  through the bound table", 1);
+}
+
 // The tail alone in each round, what the long buffer takes more than the image, as a ratio to the last contestant: its median.
 static double tail_ratio(int rom_pass, int image_pass, int alone)
 {
@@ -401,25 +477,30 @@ static void instead(uint32_t precision)
         printf("%-32s %9.2f %11.2f   %9.2f %11.2f\n", names[c], alone[c].least, alone[c].ratio, result[c].least, result[c].ratio);
 }
 
-// Beside two of the ratios stands what they were to be at most when the builder was made faster.
+// Beside two of the ratios stands what they were to be at most when the builder was made faster. In the full form the first two ways and the last
+// are measured.
 static void otherwise_built(void)
 {
     static const struct {
         const char *name, *most;
     } ways[] = {{"library", ""},
                 {"C, a division for each node", "0.70"},
+                {"C, doubles, each guess judged", "1.10"},
                 {"C, a division for two nodes", ""},
-                {"C, a division of doubles", ""},
-                {"C, doubles, each guess judged", "1.10"}};
-    CONTEST(NULL, library_builds_all, careful_2_builds_all, pairs_builds_all, doubles_builds_all, judged_builds_all);
+                {"C, a division of doubles", ""}};
+    CONTEST(NULL, library_builds_all, careful_2_builds_all, judged_builds_all, pairs_builds_all, doubles_builds_all);
     printf("\nBuilding all twelve images in other ways, C at -O2\n\n%-32s %9s %11s %8s\n", "microseconds", "", "library:it", "at most");
     for (size_t c = 0; c < sizeof ways / sizeof ways[0]; c++)
         printf("%-32s %9.2f %11.2f %8s\n", ways[c].name, result[c].least * 1e-3, result[c].ratio, ways[c].most);
+    CONTEST(NULL, full_library_builds_all, full_careful_2_builds_all, full_judged_builds_all);
+    for (size_t c = 0; c < 3; c++)
+        printf("%-32s %9.2f %11.2f\n", c ? ways[c].name : "library, full words", result[c].least * 1e-3, result[c].ratio);
 }
 
-static void growth(void)
+// Each list of contestants begins with the library.
+static void growth(const char *form, pass *const *nodes, pass *const *inversions, pass *const *builds, pass *const *checks)
 {
-    printf("\nHow the cost grows with k, random operands; C is the careful one at -O2, judged the one that judges guesses by doubles\n\n");
+    printf("\nHow the cost grows with k, %s words, random operands; C is the careful one at -O2, judged the one that judges guesses by doubles\n\n", form);
     printf("    %-22s   %-22s   %-37s   %-22s\n", "node, millions a s", "reciprocal, millions", "build, ns a node", "check, ns a node");
     printf("%2s", "k");
     for (int c = 0; c < 4; c++) {
@@ -432,14 +513,14 @@ static void growth(void)
         double words = (double)(1u << k);
         n = 63;
         printf("%2u", k);
-        CONTEST(at_random, library_node, careful_2_node);
+        contest(at_random, 2, nodes);
         printf("   %7.1f %7.1f %6.2f", 1e3 / result[0].least, 1e3 / result[1].least, result[1].ratio);
-        CONTEST(at_random, library, careful_2);
+        contest(at_random, 2, inversions);
         printf("   %7.1f %7.1f %6.2f", 1e3 / result[0].least, 1e3 / result[1].least, result[1].ratio);
-        CONTEST(NULL, library_builds, careful_2_builds, judged_builds);
+        contest(NULL, 3, builds);
         printf("   %7.2f %7.2f %6.2f", result[0].least / words, result[1].least / words, result[1].ratio);
         printf(" %7.2f %6.2f", result[2].least / words, result[2].ratio);
-        CONTEST(NULL, library_checks, careful_2_checks);
+        contest(NULL, 2, checks);
         printf("   %7.2f %7.2f %6.2f\n", result[0].least / words, result[1].least / words, result[1].ratio);
     }
 }
@@ -449,10 +530,14 @@ int main(void)
     setvbuf(stdout, NULL, _IOLBF, 0);
     make_images();
     same_algorithm();
+    full_words();
     full_roms();
     instead(8);
     instead(12);
     otherwise_built();
-    growth();
+    growth("plain", (pass *[]){library_node, careful_2_node}, (pass *[]){library, careful_2}, (pass *[]){library_builds, careful_2_builds, judged_builds},
+           (pass *[]){library_checks, careful_2_checks});
+    growth("full", (pass *[]){full_library_node, full_careful_2_node}, (pass *[]){full_library, full_careful_2},
+           (pass *[]){full_library_builds, full_careful_2_builds, full_judged_builds}, (pass *[]){full_library_checks, full_careful_2_checks});
     return 0;
 }

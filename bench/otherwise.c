@@ -67,26 +67,40 @@ static inline uint64_t guessed(double dividend, double divisor)
     return (uint32_t)(bits >> 20);
 }
 
-// A guess counts only where it is right; where it is wrong, whole numbers are divided.
-answer judged_build(uint32_t k, uint8_t *image, size_t length)
+// The words of nodes 0 to `words` - 1, then `filling` zero bits, and zeros to the buffer's end. A guess counts only where it is right; where it is wrong,
+// whole numbers are divided. It is inlined, so that what the form settles is constant.
+static inline __attribute__((always_inline)) answer judged(uint32_t k, uint32_t width, uint64_t words, uint32_t filling, uint8_t *image, size_t length)
 {
-    if (11 < k - 1)
-        return (answer){1, 0, 0};
-    uint32_t width = 2 * k + 2;
     uint64_t count = (uint64_t)1 << k, numerator = (uint64_t)1 << (3 * k + 3), mask = ((uint64_t)1 << width) - 1;
-    if (length < width * count / 8)
+    if (length < (width * words + filling) / 8)
         return (answer){2, 0, 0};
     double dividend = (double)(int64_t)numerator, divisor = (double)(int64_t)count;
     placed to = {0, 0};
-    for (uint64_t i = count; i < 2 * count; i++, divisor += 1.0) {
+    for (uint64_t i = count; i < count + words; i++, divisor += 1.0) {
         uint64_t c = guessed(dividend, divisor);
         if (!right(c, i, numerator))
             c = (numerator - 1) / i + 1;
         to = put_placed(image, to, width, c & mask);
     }
+    to = put_placed(image, to, filling, 0);
     writer rest = {to.waiting, (uint32_t)(to.place % 64), image + to.place / 64 * 8};
     put_rest(&rest, image + length);
     return (answer){0, 0, 0};
+}
+
+answer judged_build(uint32_t k, uint8_t *image, size_t length)
+{
+    if (11 < k - 1)
+        return (answer){1, 0, 0};
+    return judged(k, 2 * k + 2, (uint64_t)1 << k, 0, image, length);
+}
+
+answer judged_full_build(uint32_t k, uint8_t *image, size_t length)
+{
+    if (11 < k - 1)
+        return (answer){1, 0, 0};
+    uint32_t width = 2 * k + 4, words = (1u << k) + 1;
+    return judged(k, width, words, (8 - width * words % 8) % 8, image, length);
 }
 
 kept_table kept_bind(uint32_t k, const uint8_t *image, size_t length)

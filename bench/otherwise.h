@@ -7,8 +7,10 @@
 answer pairs_build(uint32_t k, uint8_t *image, size_t length);
 answer doubles_build(uint32_t k, uint8_t *image, size_t length);
 
-// The image as the library builds it: a division of doubles guesses each node, a product judges the guess, and words are stored by eight bytes.
+// The image as the library builds it, in either form: a division of doubles guesses each node, a product judges the guess, and words are stored by
+// eight bytes.
 answer judged_build(uint32_t k, uint8_t *image, size_t length);
+answer judged_full_build(uint32_t k, uint8_t *image, size_t length);
 
 // A table that keeps all that depends on k alone, refusals 1 and 2 among it; every other check is made in each call.
 typedef struct {

@@ -1,7 +1,7 @@
-/* Reads a mask file back as a full ROM of precision K, an image of plain words with zeros behind it to its end, and prints `right`, or its first
- * wrong word with the bytes that hold it and what they should be, or, where every word is right, the first byte past the image that is
- * not zero. The file is read whole, whatever its size. The exit status is 1 where a word or a byte past the image is wrong or the library
- * turns the call back, and 2 where the arguments, the memory, the file or the output do not allow it.
+/* Reads a mask file back as a full ROM of precision K, an image of plain words with zeros behind it to the file's end, and prints
+ * `right`, or its first wrong word with the bytes that hold it and what they should be, or, where every word is right, the first byte
+ * past the image that is not zero. The file is read whole, whatever its size. The exit status is 1 where a word or a byte past the image
+ * is wrong or the library turns the call back, and 2 where the arguments, the memory, the file or the output do not allow it.
  *
  *     proofread K FILE
  */
