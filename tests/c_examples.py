@@ -8,7 +8,7 @@ import reference
 from c_build import C_WARNINGS, ROOT, files, make, pkg_config, prefix, room, run, well
 from examples import blocks, commands_print, full_rom, lines_of, long_roms, proof, sizes, without_end
 
-EXAMPLES = ["order_image", "proofread", "reciprocals"]
+EXAMPLES = ["bench_words", "order_image", "proofread", "reciprocals"]
 SANITIZED = 77  # the status of a program that a sanitizer has stopped
 WITH = {**os.environ, "ASAN_OPTIONS": f"exitcode={SANITIZED}:detect_leaks=0:allocator_may_return_null=1",
         "UBSAN_OPTIONS": f"exitcode={SANITIZED}"}
@@ -55,7 +55,10 @@ def made():
     if well(there / "proofread", "2", path) != "right\n":
         return "proofread does not accept it"
     found = well(there / "reciprocals", "2", "7", "135")
-    return None if found == "135 30\n" else found
+    if found != "135 30\n":
+        return found
+    found = well(there / "bench_words", "2")
+    return None if found == "0 128\n1 103\n2 86\n3 74\n4 64\n" else found
 
 
 def ordered():
@@ -124,6 +127,15 @@ def reciprocals():
     return None if ask("reciprocals", "2", "7", stdin=None, input=b"") == (0, "", "") else "no operand is not answered by no line"
 
 
+def bench_words():
+    """Each word of a full image is the node, that of the last node too."""
+    for k in range(1, 13):
+        found = ask("bench_words", str(k))
+        if found != (0, "".join(f"{j} {reference.node(k, j)}\n" for j in range(2 ** k + 1)), ""):
+            return f"precision {k}: {found[0]}, {found[1][-200:]}, {found[2]}"
+    return None
+
+
 NO_NUMBER = ["", "x", "-1", "-0", "+2", " 2", "2 ", "2\n", "2x", "0x2", "2.0", "2e0", "٢", "4294967298", "18446744073709551618", "9" * 400]
 NO_PRECISION = ["0", "13", "00013", "258", "4294967295"]
 
@@ -133,13 +145,15 @@ def mistakes():
     right = mask_file(reference.image(2))
     new = room() / "new"
     new.unlink(missing_ok=True)
-    for name, rest in ("order_image", [new]), ("proofread", [right]), ("reciprocals", ["7", "135"]):
+    for name, rest in ("bench_words", []), ("order_image", [new]), ("proofread", [right]), ("reciprocals", ["7", "135"]):
         for text in NO_NUMBER:
             yield name, [text, *rest], b"", 2, f"{name}: K is not a number from 1 to 12"
         for text in NO_PRECISION:
             yield name, [text, *rest], b"", 1, f"{name}: refusal 1: "
-        yield name, [], b"", 2, f"{name}: usage: {name} K "
-        yield name, ["2"], b"", 2, f"{name}: usage: {name} K "
+        yield name, [], b"", 2, f"{name}: usage: {name} K"
+        if rest:
+            yield name, ["2"], b"", 2, f"{name}: usage: {name} K "
+    yield "bench_words", ["2", "2"], b"", 2, "bench_words: usage: bench_words K"
     yield "order_image", ["2", new, "4", "4"], b"", 2, "order_image: usage: order_image K FILE [SIZE]"
     yield "proofread", ["2", right, right], b"", 2, "proofread: usage: proofread K FILE"
     for text in NO_NUMBER:
@@ -187,8 +201,8 @@ def no_room_for_output():
     """Standard output that cannot be written, and standard input that cannot be read, are told."""
     worn = room() / "worn"
     worn.write_bytes(bytes.fromhex("02758A01"))
-    for name, words in (("order_image", ["2", room() / "ordered"]), ("proofread", ["2", mask_file(bytes.fromhex("02758B"))]),
-                        ("proofread", ["2", worn]), ("reciprocals", ["2", "7", "135"])):
+    for name, words in (("bench_words", ["2"]), ("bench_words", ["12"]), ("order_image", ["2", room() / "ordered"]),
+                        ("proofread", ["2", mask_file(bytes.fromhex("02758B"))]), ("proofread", ["2", worn]), ("reciprocals", ["2", "7", "135"])):
         done = run("sh", "-c", 'exec "$0" "$@" >/dev/full', example(name), *words, env=WITH)
         if done.returncode != 2 or done.stderr != f"{name}: No space left on device\n".encode():
             return f"{name}: {done}"
@@ -221,6 +235,7 @@ def tests():
     yield "c: proofread names the first wrong word, or the first wrong byte past the image", proofread
     yield "c: proofread reads files past the longest image whole", proofread_long
     yield "c: reciprocals gives those of the reference", reciprocals
+    yield "c: bench_words has the nodes from the words of each full image", bench_words
     yield "c: a caller's mistake is told, with a status", mistakes_told
     yield "c: reciprocals stops at an operand that is no number", mistake_after_work
     yield "c: output that cannot be written is told", no_room_for_output

@@ -3,6 +3,7 @@ its examples are in c_examples.py."""
 import collections
 import filecmp
 import functools
+import itertools
 import pathlib
 import re
 import shutil
@@ -42,7 +43,7 @@ def every_name(compiler):
     text = (HERE / "every_name.c").read_text()
     names = set(re.findall(r"\b(?:yildegga|YILDEGGA)_\w+", (ROOT / "c" / "include" / "yildegga.h").read_text()))
     unused = {name for name in names if not re.search(rf"\b{name}\b", text)}
-    if unused != {"YILDEGGA_H", "yildegga_laid_out_as_in_the_archive"}:
+    if unused != {"YILDEGGA_H", "yildegga_laid_out_as_in_the_archive", "yildegga_format_of"}:  # the last stands behind the macros in C++
         return f"tests/c/every_name.c uses all names but {unused}"
     program = room() / "every_name"
     done = run(*compiler, INCLUDE, "-o", program, HERE / "every_name.c", "-x", "none", archive())
@@ -70,8 +71,9 @@ def units_apart(compiler, error):
 # ---- the calls
 
 CONSTANTS = {"SERVED": 0, "PRECISION": 1, "SHORT_BUFFER": 2, "NODE_NUMBER": 3, "FRACTION_BITS": 4, "NOT_NORMALISED": 5, "WRONG_WORD": 6,
-             "TAIL_NOT_ZERO": 7, "LEAST_PRECISION": 1, "GREATEST_PRECISION": 12, "LONGEST_IMAGE": 13312, "LEAST_FRACTION_BITS": 1,
-             "MOST_FRACTION_BITS": 63, "TABLE_UNITS_IN_ULP": 4}  # as document 01 has them, Q-1 the fewest fraction bits, and Q-2 refusal 7
+             "TAIL_NOT_ZERO": 7, "LEAST_PRECISION": 1, "GREATEST_PRECISION": 12, "LONGEST_IMAGE": 13312, "FULL_LONGEST_IMAGE": 14340,
+             "LEAST_FRACTION_BITS": 1, "MOST_FRACTION_BITS": 63, "TABLE_UNITS_IN_ULP": 4, "PLAIN_WORDS": 0, "FULL_WORDS": 1}
+# as document 01 has them, Q-1 the fewest fraction bits, Q-2 refusal 7, and Q-7 the forms
 NUMBERS = {"build": {0, 1, 2}, "check": {0, 1, 2, 6, 7}, "node": {0, 1, 2, 3, 6}, "reciprocal": {0, 1, 2, 4, 5, 6}}
 
 
@@ -88,71 +90,94 @@ def calls_printed():
     return well(built("calls"), "64")
 
 
-def lent(k, count, *damages):
-    """The bytes that tests/c/calls.c lends: a full ROM of k where the image has room, else bytes that are A5; one byte or two damaged."""
-    buffer = bytearray(reference.call_build(k, b"\xa5" * count)[1])
+def lent(form, k, count, *damages):
+    """The bytes that tests/c/calls.c lends: a full ROM of the format where the image has room, else bytes that are A5; one byte or two damaged."""
+    buffer = bytearray(reference.call_build(k, b"\xa5" * count, form)[1])
     for at, mask in zip(damages[::2], damages[1::2]):
         if mask:
             buffer[at] ^= mask
     return bytes(buffer)
 
 
-def answer(call, k, buffer, numbers):
+def answer(call, form, k, buffer, numbers):
     """What is printed for a call: its name, its numbers and what the reference answers."""
     if call == "build":
-        found, after = reference.call_build(k, buffer)
+        found, after = reference.call_build(k, buffer, form)
         return [call, *found, after.hex()]
     if call == "check":
-        return [call, *reference.call_check(k, buffer)]
+        return [call, *reference.call_check(k, buffer, form)]
     if call == "node":
-        return [call, numbers[0], *reference.call_node(k, buffer, numbers[0])]
+        return [call, numbers[0], *reference.call_node(k, buffer, numbers[0], form)]
     if call == "reciprocal":
-        return [call, *numbers[:2], *reference.call_reciprocal(k, buffer, *numbers[:2])]
+        return [call, *numbers[:2], *reference.call_reciprocal(k, buffer, *numbers[:2], form)]
     assert call == "word_bytes", call
-    part = reference.call_word_bytes(k, buffer, numbers[0])
-    offset = numbers[0] * reference.width(k) // 8 if part else 0
+    part = reference.call_word_bytes(k, buffer, numbers[0], form)
+    offset = numbers[0] * reference.width(k, form) // 8 if part else 0
     return [call, numbers[0], offset, len(part), part.hex()]
 
 
+FULL_TOO = {2, 255, 2 ** 8, 2 ** 16, 2 ** 31, 2 ** 32 - 1}  # numbers that stand for the full form as 1 does
+
+
 def calls_compared():
-    k, buffer = 0, b""
-    asked = collections.defaultdict(set)
-    operands = collections.defaultdict(set)  # by precision and fraction bits: each operand with its number, but for refusals 1, 2 and 6
+    form, k, buffer = 0, 0, b""
+    asked = collections.defaultdict(set)  # by call and form
+    operands = collections.defaultdict(set)  # by form, precision and fraction bits: each operand with its number, but for refusals 1, 2 and 6
+    places = collections.defaultdict(set)  # by form, precision and the check's number
     for line in calls_printed().splitlines():
         call, *words = line.split(" ")
         if call in ("constant", "limits", "length", "node_8"):
             continue
         if call in ("lent", "null"):
-            k, *how = map(int, words)
-            buffer = lent(k, *how) if how else b""
-            asked[call].add(k)
+            form, k, *how = map(int, words)
+            buffer = lent(form, k, *how) if how else b""
+            asked[call, form].add(k)
             continue
         numbers = [int(word) for word in words[:5 if call == "reciprocal" else 3]]
-        expected = " ".join(map(str, answer(call, k, buffer, numbers)))
+        expected = " ".join(map(str, answer(call, form, k, buffer, numbers)))
         if line != expected:
-            return f"precision {k}, {len(buffer)} bytes: printed {line[:100]!r}, expected {expected[:100]!r}"
-        asked[call].add(int(words[{"build": 0, "check": 0, "node": 1}.get(call, 2)]))
+            return f"precision {k}, form {form}, {len(buffer)} bytes: printed {line[:100]!r}, expected {expected[:100]!r}"
+        asked[call, form].add(int(words[{"build": 0, "check": 0, "node": 1}.get(call, 2)]))
         if call == "reciprocal" and numbers[2] in (0, 4, 5):
-            operands[k, numbers[0]].add((numbers[1], numbers[2]))
-    if not {*range(15), 2 ** 32 - 1} <= asked["lent"] or not {*range(21), 2 ** 32 - 1} <= asked["null"]:
-        return f"the precisions are {asked['lent']}, with no buffer {asked['null']}"
-    short = {call: asked[call] for call in NUMBERS if asked[call] != NUMBERS[call]}
-    if short:
-        return f"not every number was answered: {short}"
-    return ends_asked(operands)
+            operands[form, k, numbers[0]].add((numbers[1], numbers[2]))
+        if call == "check":
+            places[form, k, numbers[0]].add(numbers[1])
+    return every_format_asked(asked) or ends_asked(operands) or places_named(places)
+
+
+def every_format_asked(asked):
+    """Both forms have all precisions and, as the numbers that stand for the full form, each number of answer."""
+    for form in {0, 1} | FULL_TOO:
+        lent_at, none_at = ({*range(15), 2 ** 32 - 1}, {*range(21), 2 ** 32 - 1}) if form < 2 else ({*range(4)}, {*range(4)})
+        if not lent_at <= asked["lent", form] or not none_at <= asked["null", form]:
+            return f"form {form}: the precisions are {asked['lent', form]}, with no buffer {asked['null', form]}"
+        short = {call: asked[call, form] for call in NUMBERS if asked[call, form] != NUMBERS[call]}
+        if short:
+            return f"form {form}: not every number was answered: {short}"
+    return None
 
 
 def ends_asked(operands):
-    """At each precision the operands were asked for that Q-1 names: at each n up to 2k + 4, and at 63, the least and the greatest, which
-    are served, and the next to them, which are refused by 5; and n = 0 and 64, refused by 4."""
-    for k in range(1, 13):
+    """At each precision, in both forms, the operands were asked for that Q-1 names: at each n up to 2k + 4, and at 63, the least and the
+    greatest, which are served, and the next to them, which are refused by 5; and n = 0 and 64, refused by 4."""
+    for form, k in itertools.product((0, 1), range(1, 13)):
         for n in (*range(1, 2 * k + 5), 63):
             ends = {(2 ** n, 0), (2 ** (n + 1) - 1, 0), (2 ** n - 1, 5), (2 ** (n + 1) % 2 ** 64, 5)}
-            if not ends <= operands[k, n]:
-                return f"precision {k}, {n} fraction bits: not found were {sorted(ends - operands[k, n])}"
+            if not ends <= operands[form, k, n]:
+                return f"precision {k}, form {form}, {n} fraction bits: not found were {sorted(ends - operands[form, k, n])}"
         for n in (0, 64):
-            if {number for _, number in operands[k, n]} != {4}:
-                return f"precision {k}, {n} fraction bits: {sorted(operands[k, n])}"
+            if {number for _, number in operands[form, k, n]} != {4}:
+                return f"precision {k}, form {form}, {n} fraction bits: {sorted(operands[form, k, n])}"
+    return None
+
+
+def places_named(places):
+    """The check named the last word, in the full form that of node 2^k, and the image's last byte exactly where there are filling bits."""
+    for form, k in itertools.product((0, 1), range(1, 13)):
+        last, length = reference.count(k, form) - 1, reference.length(k, form)
+        filling = reference.bit_count(k, form) % 8 != 0
+        if last not in places[form, k, 6] or ((length - 1) in places[form, k, 7]) != filling:
+            return f"precision {k}, form {form}: wrong words {sorted(places[form, k, 6])}, bytes {sorted(places[form, k, 7])}"
     return None
 
 
@@ -167,18 +192,20 @@ def constants():
 
 def limits():
     found = [tuple(map(int, row)) for row in printed_below("limits")]
-    expected = [(k, 2 ** k, reference.width(k)) for k in range(1, 13)]
+    both = (reference.PLAIN, reference.FULL)
+    expected = [(k, 2 ** k, *(size(k, form) for form in both for size in (reference.count, reference.width))) for k in range(1, 13)]
     return None if found == expected else f"{found}"
 
 
 def lengths():
-    """The call and the header's macro have the lengths that document 01 lists, and 0 elsewhere."""
+    """The call and the header's macros have the lengths that document 01 lists, those of the full form by Q-7, and 0 elsewhere."""
     rows = [tuple(map(int, row)) for row in printed_below("length")]
-    for k, by_call, by_macro in rows:
-        expected = reference.LENGTHS[k - 1] if reference.in_range(k) else 0
+    for form, k, by_call, by_macro in rows:
+        expected = (reference.length(k, form) if form else reference.LENGTHS[k - 1]) if reference.in_range(k) else 0
         if (by_call, by_macro) != (expected, expected):
-            return f"precision {k}: {by_call} by the call, {by_macro} by the macro"
-    return None if {*range(21), 2 ** 32 - 1} <= {row[0] for row in rows} else f"asked were {rows}"
+            return f"precision {k}, form {form}: {by_call} by the call, {by_macro} by the macro"
+    asked = set(itertools.product((0, 1), (*range(21), 2 ** 32 - 1))) | set(itertools.product(FULL_TOO, range(4)))
+    return None if asked <= {row[:2] for row in rows} else f"asked were {rows}"
 
 
 def constant_nodes():
@@ -200,18 +227,22 @@ def memory_checked():
 
 
 def past_image():
-    """The builder and the check take the buffer to its last byte, with 21 tails at each precision, one of them empty, and touch nothing
-    behind it; the other calls touch no byte past the image, where the buffer is longer."""
-    calls = 12 * (2 + 20 * 5) + 4 * sum(2 ** k for k in range(1, 13))
+    """The builder and the check take the buffer to its last byte, with 21 tails at each precision in each form, one of them empty, and touch
+    nothing behind it; the other calls touch no byte past the image, where the buffer is longer."""
+    calls = 0
+    for form, k in itertools.product((0, 1), range(1, 13)):
+        filling = 8 * reference.length(k, form) - reference.bit_count(k, form)
+        calls += 21 * (3 + filling) + 20 * 2 + 2 * reference.count(k, form) + 2 * 2 ** k
     found = well(built("past_image"))
     return None if found == f"{calls} of {calls}\n" else f"as they should were {found}"
 
 
 def rounding_modes():
-    """In each of the four rounding modes, full ROMs of every precision with and without a tail are the reference's, and the other calls
+    """In each of the four rounding modes, full ROMs of every format with and without a tail are the reference's, and the other calls
     answer as by default. The mode stays, and no flag is raised, but inexact by the builder."""
-    calls = 4 * sum(22 + 4 * 2 ** k for k in range(1, 13))
-    images = b"".join(reference.image(k) for k in range(1, 13))
+    formats = [(k, form) for form in (reference.PLAIN, reference.FULL) for k in range(1, 13)]
+    calls = 4 * sum(22 + 4 * 2 ** k + (2 if reference.bit_count(k, form) % 8 else 0) for k, form in formats)
+    images = b"".join(reference.image(k, form) for k, form in formats)
     found = well(built("rounding", "-lm"), stdin=None, input=images)
     return None if found == f"{calls} calls\n" else f"{calls} calls are to be made, and it says {found!r}"
 
@@ -287,11 +318,11 @@ def tests():
     yield "c: another machine is refused", lambda: refused(["gcc"], "header_alone.c", ["-m32"], "#error .libyildegga.a is for x86-64")
     yield "c: the constants of the header", constants
     yield "c: the limits of each precision", limits
-    yield "c: the image lengths, by the call and by the header", lengths
+    yield "c: the image lengths of both forms, by the call and by the header", lengths
     yield "c: the constant nodes of precision 8", constant_nodes
-    yield "c: every call around every limit, between guard bytes, by the reference", calls_compared
+    yield "c: every call around every limit, in both forms, between guard bytes, by the reference", calls_compared
     yield "c: every call around every limit, under valgrind", memory_checked
-    yield "c: the builder and the check take the buffer to its end, and the other calls no more than the image", past_image
+    yield "c: the builder and the check take the buffer to its end, and the other calls no more than the image, in both forms", past_image
     yield "c: the same bytes and answers in every rounding mode, which stays, and no flag but inexact by the builder", rounding_modes
     yield "c: the archive calls nothing outside itself but memset", asked_for
     yield "c: make install, and pkg-config finds it", installed

@@ -15,7 +15,7 @@ static uint32_t word(const uint8_t *image, size_t width, size_t j)
 {
     uint32_t value = 0;
     for (size_t bit = j * width; bit < (j + 1) * width; bit++)
-        value = 2 * value + (image[bit / 8] >> (7 - bit % 8) & 1u);
+        value = 2 * value + ((uint32_t)image[bit / 8] >> (7 - bit % 8) & 1u);
     return value;
 }
 

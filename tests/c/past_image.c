@@ -1,5 +1,5 @@
-/* Lends bytes that end where the machine lets nothing be read or written: a call that touches one behind them is stopped. For the calls
-   that take the image alone, the image ends there, and the buffer is said to go on; for the builder and the check, which take the tail
+/* Lends bytes that end where the machine lets nothing be read or written: a call that touches one behind them is stopped. All is done in
+   both forms. For the calls that take the image alone, the image ends there, and the buffer is said to go on; for the builder and the check, which take the tail
    too, the buffer ends there. Where nothing is stopped, it prints how many calls answered as they should, and how many there were. */
 #define _DEFAULT_SOURCE /* mmap's MAP_ANONYMOUS */
 #include <stdbool.h>
@@ -31,42 +31,68 @@ static bool all_are(const uint8_t *bytes, size_t count, uint8_t value)
     return true;
 }
 
-static bool checked(uint32_t k, const uint8_t *rom, size_t length, uint32_t number, uint64_t place)
+/* The table that is asked for: its format, its image's bytes, its words, and the bits that they are. */
+struct table { yildegga_format format; size_t image; uint32_t words; size_t bits; };
+
+static struct table plain(uint32_t k)
 {
-    yildegga_done answer = yildegga_check(k, rom, length);
+    return (struct table){YILDEGGA_PLAIN(k), YILDEGGA_IMAGE_LENGTH(k), YILDEGGA_WORD_COUNT(k), YILDEGGA_WORD_COUNT(k) * YILDEGGA_WORD_BITS(k)};
+}
+
+static struct table full(uint32_t k)
+{
+    return (struct table){YILDEGGA_FULL(k), YILDEGGA_FULL_IMAGE_LENGTH(k), YILDEGGA_FULL_WORD_COUNT(k),
+                          YILDEGGA_FULL_WORD_COUNT(k) * YILDEGGA_FULL_WORD_BITS(k)};
+}
+
+static bool checked(struct table table, const uint8_t *rom, size_t length, uint32_t number, uint64_t place)
+{
+    yildegga_done answer = yildegga_check(table.format, rom, length);
     return answer.number == number && answer.place == place;
 }
 
-/* The builder writes the tail to its last byte and the check reads it to there, and neither goes on. */
-static void whole_buffer(uint32_t k, size_t tail)
+static void flip(uint8_t *bytes, size_t bit)
 {
-    size_t image = yildegga_image_length(k), length = image + tail;
+    bytes[bit / 8] ^= (uint8_t)(0x80 >> bit % 8);
+}
+
+/* The builder writes the tail to its last byte and the check reads it to there, and neither goes on. */
+static void whole_buffer(struct table table, size_t tail)
+{
+    size_t image = table.image, length = image + tail;
     uint8_t *rom = end - length;
     memset(pages, FOUND, PAGES * PAGE);
-    see(yildegga_build(k, rom, length).number == YILDEGGA_SERVED && all_are(rom + image, tail, 0) && all_are(rom - GUARD, GUARD, FOUND));
-    see(checked(k, rom, length, YILDEGGA_SERVED, 0));
+    see(yildegga_build(table.format, rom, length).number == YILDEGGA_SERVED && all_are(rom + image, tail, 0) &&
+        all_are(rom - GUARD, GUARD, FOUND));
+    see(checked(table, rom, length, YILDEGGA_SERVED, 0));
     if (tail > 0) {
         rom[length - 1] = 1;
-        see(checked(k, rom, length, YILDEGGA_TAIL_NOT_ZERO, length - 1));
+        see(checked(table, rom, length, YILDEGGA_TAIL_NOT_ZERO, length - 1));
         rom[image] = 0x80;
-        see(checked(k, rom, length, YILDEGGA_TAIL_NOT_ZERO, image));
-        rom[image - 1] ^= 1; /* the last word */
-        see(checked(k, rom, length, YILDEGGA_WRONG_WORD, YILDEGGA_LAST_NODE(k) - 1));
+        see(checked(table, rom, length, YILDEGGA_TAIL_NOT_ZERO, image));
     }
+    for (size_t bit = table.bits; bit < 8 * image; bit++) { /* the filling bits */
+        flip(rom, bit);
+        see(checked(table, rom, length, YILDEGGA_TAIL_NOT_ZERO, image - 1));
+    }
+    flip(rom, table.bits - 1); /* the last word */
+    see(checked(table, rom, length, YILDEGGA_WRONG_WORD, table.words - 1));
 }
 
 /* The other calls read no byte past the image. */
-static void image_alone(uint32_t k)
+static void image_alone(struct table table, uint32_t k)
 {
-    uint8_t *image = end - yildegga_image_length(k);
-    size_t length = yildegga_image_length(k) + PAGE;
-    yildegga_build(k, image, yildegga_image_length(k));
+    uint8_t *image = end - table.image;
+    size_t length = table.image + PAGE;
+    yildegga_build(table.format, image, table.image);
+    for (uint32_t j = 0; j < table.words; j++) {
+        see(yildegga_node(table.format, image, length, j).number == YILDEGGA_SERVED);
+        see(yildegga_word_bytes(table.format, image, length, j).count > 0);
+    }
     for (uint32_t j = 0; j < YILDEGGA_LAST_NODE(k); j++) {
         uint64_t x = YILDEGGA_LAST_NODE(k) + j; /* node j itself, with k fraction bits; with 63 it is x << (63 - k) */
-        see(yildegga_node(k, image, length, j).number == YILDEGGA_SERVED);
-        see(yildegga_word_bytes(k, image, length, j).count > 0);
-        see(yildegga_reciprocal(k, image, length, k, x).number == YILDEGGA_SERVED);
-        see(yildegga_reciprocal(k, image, length, 63, x << (63 - k)).number == YILDEGGA_SERVED);
+        see(yildegga_reciprocal(table.format, image, length, k, x).number == YILDEGGA_SERVED);
+        see(yildegga_reciprocal(table.format, image, length, 63, x << (63 - k)).number == YILDEGGA_SERVED);
     }
 }
 
@@ -78,9 +104,12 @@ int main(void)
         return 3;
     end = pages + PAGES * PAGE;
     for (uint32_t k = YILDEGGA_LEAST_PRECISION; k <= YILDEGGA_GREATEST_PRECISION; k++) {
-        for (size_t each = 0; each < COUNT(tails); each++)
-            whole_buffer(k, tails[each]);
-        image_alone(k);
+        for (size_t each = 0; each < COUNT(tails); each++) {
+            whole_buffer(plain(k), tails[each]);
+            whole_buffer(full(k), tails[each]);
+        }
+        image_alone(plain(k), k);
+        image_alone(full(k), k);
     }
     printf("%lu of %lu\n", right, calls);
     return right == calls ? 0 : 1;

@@ -1,8 +1,8 @@
-/* Makes the calls in each of the four rounding modes. The builder computes with doubles, and must leave the same bytes in every mode; the other
+/* Makes the calls in each of the four rounding modes, in both forms. The builder computes with doubles, and must leave the same bytes in every mode; the other
    calls must answer as in the default one. No call changes the mode or another setting of the arithmetic, and none raises a flag of the
    floating-point environment, but for the builder, which may raise inexact.
 
-   Standard input has the right images of precision 1 to 12 in a row. At the first call that is not as it should be, the program says which
+   Standard input has the right images of precision 1 to 12 in a row, first the plain ones, then the full ones. At the first call that is not as it should be, the program says which
    it is and ends with status 1; where there is none, it prints how many calls were made. */
 #include <fenv.h>
 #include <inttypes.h>
@@ -22,22 +22,28 @@
 static const struct { int mode; const char *name; } modes[] = {
     {FE_TONEAREST, "to the nearest"}, {FE_UPWARD, "upward"}, {FE_DOWNWARD, "downward"}, {FE_TOWARDZERO, "toward zero"}};
 
-static uint8_t right[YILDEGGA_GREATEST_PRECISION + 1][YILDEGGA_LONGEST_IMAGE];
-static uint8_t block[GUARD + YILDEGGA_LONGEST_IMAGE + TAIL + GUARD], expected[sizeof block];
+static uint8_t right[YILDEGGA_FULL_LONGEST_IMAGE]; /* the image of the format that is asked for */
+static uint8_t block[GUARD + YILDEGGA_FULL_LONGEST_IMAGE + TAIL + GUARD], expected[sizeof block];
 static uint8_t *const lent = block + GUARD;
 
 /* ---- before and behind each call */
 
 static uint32_t k;
+static bool full; /* the form */
 static size_t mode; /* its number in the list; the default one is the first */
 static unsigned long calls;
 static unsigned settings;
+
+static yildegga_format format_of(uint32_t precision)
+{
+    return full ? YILDEGGA_FULL(precision) : YILDEGGA_PLAIN(precision);
+}
 
 static void see(bool as_it_should, const char *call, const char *what)
 {
     if (as_it_should)
         return;
-    fprintf(stderr, "precision %" PRIu32 ", rounding %s: %s %s\n", k, modes[mode].name, call, what);
+    fprintf(stderr, "precision %" PRIu32 "%s, rounding %s: %s %s\n", k, full ? ", full words" : "", modes[mode].name, call, what);
     exit(1);
 }
 
@@ -78,10 +84,10 @@ static void build(uint32_t asked, size_t length, uint32_t number)
     memset(expected, FOUND, sizeof expected);
     if (number == YILDEGGA_SERVED) {
         memset(expected + GUARD, 0, length);
-        memcpy(expected + GUARD, right[k], yildegga_image_length(k));
+        memcpy(expected + GUARD, right, yildegga_image_length(format_of(k)));
     }
     enter();
-    yildegga_done answer = yildegga_build(asked, lent, length);
+    yildegga_done answer = yildegga_build(format_of(asked), lent, length);
     leave("build", FE_INEXACT);
     see(answer.number == number && answer.place == 0 && answer.value == 0, "build", "answers otherwise than it should");
     see(memcmp(block, expected, sizeof block) == 0, "build", "leaves other bytes than it should");
@@ -90,7 +96,7 @@ static void build(uint32_t asked, size_t length, uint32_t number)
 static void check(size_t length, uint32_t number)
 {
     enter();
-    yildegga_done answer = yildegga_check(k, lent, length);
+    yildegga_done answer = yildegga_check(format_of(k), lent, length);
     leave("check", 0);
     see(answer.number == number, "check", "answers otherwise than it should");
     same("check", answer.number, answer.place, answer.value);
@@ -99,7 +105,7 @@ static void check(size_t length, uint32_t number)
 static void node(size_t length, uint32_t j)
 {
     enter();
-    yildegga_node_read answer = yildegga_node(k, lent, length, j);
+    yildegga_node_read answer = yildegga_node(format_of(k), lent, length, j);
     leave("node", 0);
     same("node", answer.number, answer.place, answer.value.count);
 }
@@ -115,7 +121,7 @@ static void node_8(uint32_t j)
 static void word_bytes(size_t length, uint32_t j)
 {
     enter();
-    yildegga_part part = yildegga_word_bytes(k, lent, length, j);
+    yildegga_part part = yildegga_word_bytes(format_of(k), lent, length, j);
     leave("word_bytes", 0);
     same("word_bytes", 0, part.offset, part.count);
 }
@@ -123,7 +129,7 @@ static void word_bytes(size_t length, uint32_t j)
 static void reciprocal(size_t length, uint32_t n, uint64_t x)
 {
     enter();
-    yildegga_reciprocal_given answer = yildegga_reciprocal(k, lent, length, n, x);
+    yildegga_reciprocal_given answer = yildegga_reciprocal(format_of(k), lent, length, n, x);
     leave("reciprocal", 0);
     same("reciprocal", answer.number, answer.place, answer.value.count);
 }
@@ -131,18 +137,24 @@ static void reciprocal(size_t length, uint32_t n, uint64_t x)
 static size_t image_length(void)
 {
     enter();
-    size_t length = yildegga_image_length(k);
+    size_t length = yildegga_image_length(format_of(k));
     leave("image_length", 0);
     same("image_length", 0, 0, length);
     return length;
 }
 
-/* ---- the cases of a precision in a mode: 4 calls for each node below the last, and 22 others */
+/* ---- the cases of a format in a mode: 4 calls for each node below the last, and 22 others, 24 where there are filling bits */
+
+static void flip(size_t bit)
+{
+    lent[bit / 8] ^= (uint8_t)(0x80 >> bit % 8);
+}
 
 static void cases(void)
 {
     size_t image = image_length(), longer = image + TAIL;
-    uint32_t last = YILDEGGA_LAST_NODE(k);
+    uint32_t last = YILDEGGA_LAST_NODE(k), words = full ? YILDEGGA_FULL_WORD_COUNT(k) : YILDEGGA_WORD_COUNT(k);
+    size_t bits = words * (full ? YILDEGGA_FULL_WORD_BITS(k) : YILDEGGA_WORD_BITS(k));
     build(k + YILDEGGA_GREATEST_PRECISION, longer, YILDEGGA_PRECISION);
     build(k, image - 1, YILDEGGA_SHORT_BUFFER);
     build(k, longer, YILDEGGA_SERVED);
@@ -169,33 +181,44 @@ static void cases(void)
     reciprocal(image, 63, UINT64_MAX);
     reciprocal(image - 1, 63, UINT64_MAX);
 
-    lent[image - 1] ^= 1; /* the last word */
+    if (bits < 8 * image) {
+        flip(bits); /* the first filling bit, on which no other call depends */
+        check(image, YILDEGGA_TAIL_NOT_ZERO);
+        reciprocal(image, 63, UINT64_MAX);
+        flip(bits);
+    }
+    flip(bits - 1); /* the last word */
     check(image, YILDEGGA_WRONG_WORD);
-    node(image, last - 1);
+    node(image, words - 1);
     reciprocal(image, 63, UINT64_MAX);
     reciprocal(image, 1, 2);
     node(image, 0);
 }
 
-static bool images_read(void)
+/* All formats in the order of the input. False where it does not hold their images. */
+static bool formats(void)
 {
-    for (k = YILDEGGA_LEAST_PRECISION; k <= YILDEGGA_GREATEST_PRECISION; k++)
-        if (fread(right[k], 1, yildegga_image_length(k), stdin) != yildegga_image_length(k))
-            return false;
+    for (unsigned form = 0; form < 2; form++)
+        for (k = YILDEGGA_LEAST_PRECISION; k <= YILDEGGA_GREATEST_PRECISION; k++) {
+            full = form == 1;
+            size_t image = yildegga_image_length(format_of(k));
+            if (fread(right, 1, image, stdin) != image)
+                return false;
+            for (mode = 0; mode < COUNT(modes); mode++) {
+                if (fesetround(modes[mode].mode) != 0)
+                    return false;
+                answered = 0;
+                cases();
+            }
+            fesetround(modes[0].mode);
+        }
     return getchar() == EOF;
 }
 
 int main(void)
 {
-    if (!images_read() || fegetround() != modes[0].mode)
+    if (fegetround() != modes[0].mode || !formats())
         return 2;
-    for (k = YILDEGGA_LEAST_PRECISION; k <= YILDEGGA_GREATEST_PRECISION; k++)
-        for (mode = 0; mode < COUNT(modes); mode++) {
-            if (fesetround(modes[mode].mode) != 0)
-                return 2;
-            answered = 0;
-            cases();
-        }
     printf("%lu calls\n", calls);
     return 0;
 }
