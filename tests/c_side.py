@@ -146,9 +146,9 @@ def calls_compared():
 
 
 def every_format_asked(asked):
-    """Both forms have all precisions and, as the numbers that stand for the full form, each number of answer."""
+    """Both forms were asked for at all precisions, and the other numbers of the full form at two; each with every number of answer."""
     for form in {0, 1} | FULL_TOO:
-        lent_at, none_at = ({*range(15), 2 ** 32 - 1}, {*range(21), 2 ** 32 - 1}) if form < 2 else ({*range(4)}, {*range(4)})
+        lent_at, none_at = ({*range(15), 2 ** 32 - 1}, {*range(21), 2 ** 32 - 1}) if form < 2 else ({0, 2}, {0, 2})
         if not lent_at <= asked["lent", form] or not none_at <= asked["null", form]:
             return f"form {form}: the precisions are {asked['lent', form]}, with no buffer {asked['null', form]}"
         short = {call: asked[call, form] for call in NUMBERS if asked[call, form] != NUMBERS[call]}
@@ -204,7 +204,7 @@ def lengths():
         expected = (reference.length(k, form) if form else reference.LENGTHS[k - 1]) if reference.in_range(k) else 0
         if (by_call, by_macro) != (expected, expected):
             return f"precision {k}, form {form}: {by_call} by the call, {by_macro} by the macro"
-    asked = set(itertools.product((0, 1), (*range(21), 2 ** 32 - 1))) | set(itertools.product(FULL_TOO, range(4)))
+    asked = set(itertools.product((0, 1), (*range(21), 2 ** 32 - 1))) | set(itertools.product(FULL_TOO, (0, 2)))
     return None if asked <= {row[:2] for row in rows} else f"asked were {rows}"
 
 

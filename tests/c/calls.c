@@ -291,8 +291,9 @@ int main(int argc, char **argv)
         of_form(YILDEGGA_PLAIN_WORDS, some_k, on_bytes);
         of_form(YILDEGGA_FULL_WORDS, some_k, on_bytes);
     }
-    for (size_t each = 0; each < COUNT(full_too); each++)
-        for (uint32_t some_k = 0; some_k <= 3; some_k++)
-            of_form(full_too[each], some_k, true);
+    for (size_t each = 0; each < COUNT(full_too); each++) {
+        of_form(full_too[each], 0, true);
+        of_form(full_too[each], 2, true);
+    }
     return 0;
 }
