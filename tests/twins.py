@@ -36,6 +36,13 @@ WIDE = ["4294967296", "4294967298", "18446744073709551615"]  # numbers, but of m
 PRECISIONS = ["0", "1", "2", "002", "0" * 400 + "2", "3", "12", "13", "258", "4294967295"]
 
 
+def bench_words():
+    for words in ([], ["2", "2"], ["2", ""], ["", ""], ["x", "y"], ["13", "2"], ["--help"]):
+        yield words, b""
+    for k in [*map(str, range(1, 13)), *PRECISIONS, *NO_NUMBER, *WIDE]:
+        yield [k], b""
+
+
 def order_image():
     for words in ([], ["2"], ["", ""], ["2", ""], ["new", "2"], ["2", "none/new"], ["2", "."], ["2", b"\xff/new"], ["2", b"\xff"],
                   ["2", "n" * 300], ["2", "right"], ["2", "twelve, longer"], ["2", "/dev/full"], ["12", "/dev/full"],
@@ -130,8 +137,8 @@ def agree(name, cases):
 
 def streams_agree():
     """Output that cannot be written, and input that cannot be read, end both with status 2."""
-    for name, words in (("order_image", ["2", "new"]), ("proofread", ["2", "right"]), ("proofread", ["2", "damaged"]),
-                        ("proofread", ["2", "tail, first"]),
+    for name, words in (("bench_words", ["2"]), ("bench_words", ["12"]), ("order_image", ["2", "new"]), ("proofread", ["2", "right"]),
+                        ("proofread", ["2", "damaged"]), ("proofread", ["2", "tail, first"]),
                         ("reciprocals", ["2", "7", "128"]), ("reciprocals", ["2", "7", "127"]), ("reciprocals", ["2", "7", "128", "x"]),
                         ("reciprocals", ["2", "7", *["128"] * 5000])):
         with open("/dev/full", "wb") as full:
@@ -162,7 +169,7 @@ def same_version():
 
 
 def tests():
-    for name, cases in ("order_image", order_image), ("proofread", proofread), ("reciprocals", reciprocals):
+    for name, cases in ("bench_words", bench_words), ("order_image", order_image), ("proofread", proofread), ("reciprocals", reciprocals):
         yield (f"twins: {name} in C and in Rust, on {len(list(cases()))} calls and inputs",
                lambda name=name, cases=cases: agree(name, cases))
     yield "twins: output that cannot be written, and input that cannot be read", streams_agree

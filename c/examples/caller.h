@@ -45,7 +45,7 @@ static inline const char *refusal(uint32_t number)
     case YILDEGGA_FRACTION_BITS: return "the fraction bits are fewer than 1 or more than 63";
     case YILDEGGA_NOT_NORMALISED: return "the operand is not from 2^n to 2^(n+1) - 1";
     case YILDEGGA_WRONG_WORD: return "the word is not the construction's";
-    case YILDEGGA_TAIL_NOT_ZERO: return "a byte past the image is not zero";
+    case YILDEGGA_TAIL_NOT_ZERO: return "a filling bit or a byte past the image is not zero";
     default: return "served";
     }
 }
