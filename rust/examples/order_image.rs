@@ -1,6 +1,6 @@
-//! Orders a ROM: builds the image of precision K with zeros behind it to SIZE bytes, or the image alone where no SIZE is given, writes
-//! it to FILE, and prints K and the bytes written. The exit status is 1 where the library turns the call back, and 2 where the
-//! arguments, the memory, the file or the output do not allow it.
+//! Orders a ROM: builds the image of precision K in plain words, with zeros behind it to SIZE bytes, or the image alone where no SIZE is
+//! given, writes it to FILE, and prints K and the bytes written. The exit status is 1 where the library turns the call back, and 2 where
+//! the arguments, the memory, the file or the output do not allow it.
 //!
 //!     order_image K FILE [SIZE]
 #![forbid(unsafe_code)]
@@ -11,6 +11,8 @@ use std::fs;
 use std::io::{self, ErrorKind, Write};
 use std::path::Path;
 use std::process::ExitCode;
+
+use yildegga::Format;
 
 mod caller;
 
@@ -23,7 +25,7 @@ fn order() -> Result<u8, Box<dyn Error>> {
     };
     let k = k.to_str().and_then(caller::number).ok_or("K is not a number from 1 to 12")?;
     let size = match size {
-        None => yildegga::image_length(k).unwrap_or(0),
+        None => Format::plain(k).image_length().unwrap_or(0),
         Some(size) => size.to_str().and_then(caller::number).ok_or("SIZE is not a number below 2^64")?,
     };
     let file = Path::new(file);
@@ -31,7 +33,7 @@ fn order() -> Result<u8, Box<dyn Error>> {
     let mut rom = Vec::new();
     rom.try_reserve_exact(size).map_err(|_| io::Error::from(ErrorKind::OutOfMemory))?;
     rom.resize(size, 0);
-    yildegga::build(k, &mut rom)?;
+    yildegga::build(Format::plain(k), &mut rom)?;
     fs::write(file, &rom).map_err(|error| format!("{}: {error}", file.display()))?;
     writeln!(io::stdout(), "{k} {size}")?;
     Ok(0)

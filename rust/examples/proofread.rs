@@ -1,7 +1,7 @@
-//! Reads a mask file back as a full ROM of precision K, an image with zeros behind it to the file's end, and prints `right`, or its first
-//! wrong word with the bytes that hold it and what they should be, or, where every word is right, the first byte past the image that is
-//! not zero. The file is read whole, whatever its size. The exit status is 1 where a word or a byte past the image is wrong or the library
-//! turns the call back, and 2 where the arguments, the memory, the file or the output do not allow it.
+//! Reads a mask file back as a full ROM of precision K, an image of plain words with zeros behind it to the file's end, and prints
+//! `right`, or its first wrong word with the bytes that hold it and what they should be, or, where every word is right, the first byte
+//! past the image that is not zero. The file is read whole, whatever its size. The exit status is 1 where a word or a byte past the image
+//! is wrong or the library turns the call back, and 2 where the arguments, the memory, the file or the output do not allow it.
 //!
 //!     proofread K FILE
 #![forbid(unsafe_code)]
@@ -13,7 +13,7 @@ use std::io::{self, Write};
 use std::path::Path;
 use std::process::ExitCode;
 
-use yildegga::{Refusal, Refused, LONGEST_IMAGE};
+use yildegga::{Format, Refusal, Refused};
 
 mod caller;
 
@@ -23,23 +23,23 @@ fn hex(bytes: &[u8]) -> String {
 }
 
 /// The lines on the wrong word of node j.
-fn wrong_word(k: u32, rom: &[u8], j: u32) -> Result<String, Refused> {
-    let mut right = [0; LONGEST_IMAGE];
-    yildegga::build(k, &mut right)?;
-    let at = yildegga::word_range(k, rom, j);
+fn wrong_word(format: Format, rom: &[u8], j: u32) -> Result<String, Refused> {
+    let mut right = [0; Format::LONGEST_PLAIN];
+    yildegga::build(format, &mut right)?;
+    let at = yildegga::word_range(format, rom, j);
     Ok(format!(
         "wrong word at node {j}, bytes {} to {}: {}\nshould be {}: node {j} is {} table units",
         at.start,
         at.end - 1,
-        hex(yildegga::word_bytes(k, rom, j)),
-        hex(yildegga::word_bytes(k, &right, j)),
-        yildegga::node(k, &right, j)?.0
+        hex(yildegga::word_bytes(format, rom, j)),
+        hex(yildegga::word_bytes(format, &right, j)),
+        yildegga::node(format, &right, j)?.0
     ))
 }
 
 /// The lines on a wrong tail, whose first byte that is not zero is byte `at`.
-fn wrong_tail(k: u32, rom: &[u8], at: usize) -> String {
-    let last = yildegga::image_length(k).map_or(0, |length| length - 1);
+fn wrong_tail(format: Format, rom: &[u8], at: usize) -> String {
+    let last = format.image_length().map_or(0, |length| length - 1);
     format!("wrong tail at byte {at}: {}\nshould be 00: the image is bytes 0 to {last}", hex(&rom[at..=at]))
 }
 
@@ -48,17 +48,17 @@ fn proofread() -> Result<u8, Box<dyn Error>> {
     let [k, file] = words.as_slice() else {
         return Err("usage: proofread K FILE".into());
     };
-    let k = k.to_str().and_then(caller::number).ok_or("K is not a number from 1 to 12")?;
+    let format = Format::plain(k.to_str().and_then(caller::number).ok_or("K is not a number from 1 to 12")?);
     let file = Path::new(file);
     let rom = fs::read(file).map_err(|error| format!("{}: {error}", file.display()))?;
 
-    let Err(refused) = yildegga::check(k, &rom) else {
+    let Err(refused) = yildegga::check(format, &rom) else {
         writeln!(io::stdout(), "right")?;
         return Ok(0);
     };
     let lines = match refused.refusal() {
-        Refusal::WrongWord => wrong_word(k, &rom, u32::try_from(refused.place())?)?,
-        Refusal::TailNotZero => wrong_tail(k, &rom, usize::try_from(refused.place())?),
+        Refusal::WrongWord => wrong_word(format, &rom, u32::try_from(refused.place())?)?,
+        Refusal::TailNotZero => wrong_tail(format, &rom, usize::try_from(refused.place())?),
         _ => return Err(refused.into()),
     };
     writeln!(io::stdout(), "{lines}")?;

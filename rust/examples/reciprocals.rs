@@ -11,7 +11,7 @@ use std::io::{self, BufRead, Write};
 use std::process::ExitCode;
 use std::str;
 
-use yildegga::BoundTable;
+use yildegga::{BoundTable, Format};
 
 mod caller;
 
@@ -20,12 +20,12 @@ fn reciprocals() -> Result<u8, Box<dyn Error>> {
     let [k, n, operands @ ..] = words.as_slice() else {
         return Err("usage: reciprocals K N [X...]".into());
     };
-    let k = k.to_str().and_then(caller::number).ok_or("K is not a number from 1 to 12")?;
+    let format = Format::plain(k.to_str().and_then(caller::number).ok_or("K is not a number from 1 to 12")?);
     let n = n.to_str().and_then(caller::number).ok_or("N is not a number from 1 to 63")?;
 
-    let mut image = vec![0; yildegga::image_length(k).unwrap_or(0)];
-    yildegga::build(k, &mut image)?;
-    let table = BoundTable::new(k, &image);
+    let mut image = vec![0; format.image_length().unwrap_or(0)];
+    yildegga::build(format, &mut image)?;
+    let table = BoundTable::new(format, &image);
     let mut which = 0;
     let mut status = 0;
     let mut answer = |operand: Option<&str>| -> Result<(), Box<dyn Error>> {

@@ -1,39 +1,49 @@
 //! Reciprocal tables for graphics hardware, and the reciprocals taken from them, in which every word and every last place is proved.
 //!
 //! A table has a precision k from 1 to 12. Its image, a string of bit-packed words, stands in bytes that the caller lends, and the
-//! calls on it take k and those bytes. These may be more than the image has: those past it are the tail, and an image with zeros to the
-//! end of the bytes is a full ROM.
+//! words have one of two forms. A plain word holds a node without its leading one, and the last node is implied; a full word holds the
+//! node itself, for every node. A [`Format`] says both, [`Format::plain`]`(k)` or [`Format::full`]`(k)`, and the calls on an image take it
+//! with those bytes. These may be more than the image has: those past it are the tail, and an image with zeros to the end of the bytes
+//! is a full ROM.
 //!
-//! - [`build`] writes a full ROM, the image and zeros behind it; [`image_length`] says how long the image is;
-//! - [`check`] tells whether the bytes are a full ROM, and names the lowest node whose word is wrong, or else the lowest byte past the
-//!   image that is not zero;
+//! - [`build`] writes a full ROM, the image and zeros behind it; [`Format::image_length`] says how long the image is;
+//! - [`check`] tells whether the bytes are a full ROM, and names the lowest node whose word is wrong, or else the lowest byte with a set
+//!   bit behind the last word;
 //! - [`node`] reads one node, [`word_bytes`] and [`word_range`] show the bytes that hold its word;
 //! - [`node_8`] gives a node of precision 8 without an image;
 //! - [`reciprocal`] gives the reciprocal of an operand of 1 to 63 fraction bits, less than one ulp from the exact one;
-//! - a [`BoundTable`] keeps an image and its precision together for many operands.
+//! - a [`BoundTable`] keeps an image and its format together for many operands.
 //!
-//! The tail is for [`build`] and [`check`]: the other calls give the same whatever it holds.
+//! The tail, and the filling bits that may follow the last word to its byte's end, are for [`build`] and [`check`]: the other calls give
+//! the same whatever they hold.
 //!
 //! No call has a precondition: whatever breaks a limit is turned back as a [`Refused`], with a number and a place, and leaves every
 //! byte as it was. No call panics, allocates or keeps anything.
 //!
 //! ```
-//! // The image of precision 2, and the reciprocal of 135 / 2^7 in ulps of 1 / 2^5.
+//! use yildegga::Format;
+//!
+//! // The plain image of precision 2, and the reciprocal of 135 / 2^7 in ulps of 1 / 2^5.
+//! let two = Format::plain(2);
 //! let mut image = [0; 3];
-//! yildegga::build(2, &mut image)?;
+//! yildegga::build(two, &mut image)?;
 //! assert_eq!(image, [0x02, 0x75, 0x8A]);
-//! assert_eq!(yildegga::reciprocal(2, &image, 7, 135)?, yildegga::Ulps(30));
+//! assert_eq!(yildegga::reciprocal(two, &image, 7, 135)?, yildegga::Ulps(30));
 //!
 //! // A ROM of 8 bytes, the same image with zeros to the end, and one of these bytes worn.
 //! let mut rom = [0xFF; 8];
-//! yildegga::build(2, &mut rom)?;
+//! yildegga::build(two, &mut rom)?;
 //! assert_eq!(rom, [0x02, 0x75, 0x8A, 0, 0, 0, 0, 0]);
 //! rom[6] = 1;
-//! let refused = yildegga::check(2, &rom).unwrap_err();
+//! let refused = yildegga::check(two, &rom).unwrap_err();
 //! assert_eq!((refused.number(), refused.place()), (7, 6));
 //!
+//! // The full image of the same precision: five words of 8 bits, which are the nodes.
+//! yildegga::build(Format::full(2), &mut rom)?;
+//! assert_eq!(rom, [128, 103, 86, 74, 64, 0, 0, 0]);
+//!
 //! // A caller's mistake is turned back.
-//! let refused = yildegga::build(2, &mut image[..2]).unwrap_err();
+//! let refused = yildegga::build(two, &mut image[..2]).unwrap_err();
 //! assert_eq!(refused.number(), 2);
 //! # Ok::<(), yildegga::Refused>(())
 //! ```
@@ -45,6 +55,7 @@
 
 mod bound;
 mod eight;
+mod format;
 mod image;
 mod limits;
 mod operand;
@@ -53,8 +64,9 @@ mod units;
 
 pub use bound::BoundTable;
 pub use eight::node_8;
-pub use image::{build, check, image_length, node, word_bytes, word_range};
-pub use limits::{last_node, word_bits, GREATEST_PRECISION, LEAST_FRACTION_BITS, LEAST_PRECISION, LONGEST_IMAGE, MOST_FRACTION_BITS};
+pub use format::{Form, Format};
+pub use image::{build, check, node, word_bytes, word_range};
+pub use limits::{last_node, GREATEST_PRECISION, LEAST_FRACTION_BITS, LEAST_PRECISION, MOST_FRACTION_BITS};
 pub use operand::reciprocal;
 pub use refusal::{Refusal, Refused};
 pub use units::{TableUnits, Ulps, TABLE_UNITS_IN_ULP};

@@ -1,29 +1,31 @@
 //! The call on an operand.
+use crate::format::Format;
 use crate::refusal::{served, Refused};
 use crate::units::Ulps;
 
 /// The reciprocal of the operand `x`, which has `n` fraction bits, 1 to 63, and stands for x / 2^n, in ulps. It is less than one ulp
-/// from the exact one, 2^n / x. The first 2k + 3 fraction bits decide it, and those that `x` lacks count as zeros.
+/// from the exact one, 2^n / x, and does not depend on the form of the image. The first 2k + 3 fraction bits decide it, and those that `x`
+/// lacks count as zeros.
 ///
 /// Turned back by refusals 1, 2, 4, 5 and 6. The words of the two nodes about the operand are judged, and no others.
 ///
 /// ```
-/// use yildegga::Ulps;
-/// let image = [0x02, 0x75, 0x8A];
-/// assert_eq!(yildegga::reciprocal(2, &image, 7, 128)?, Ulps(32));
-/// assert_eq!(yildegga::reciprocal(2, &image, 7, 255)?, Ulps(16));
+/// use yildegga::{Format, Ulps};
+/// let (two, image) = (Format::plain(2), [0x02, 0x75, 0x8A]);
+/// assert_eq!(yildegga::reciprocal(two, &image, 7, 128)?, Ulps(32));
+/// assert_eq!(yildegga::reciprocal(two, &image, 7, 255)?, Ulps(16));
 ///
 /// // An operand of n fraction bits is at least 2^n.
-/// assert_eq!(yildegga::reciprocal(2, &image, 7, 127).unwrap_err().number(), 5);
+/// assert_eq!(yildegga::reciprocal(two, &image, 7, 127).unwrap_err().number(), 5);
 ///
 /// // The significand of a binary32 float has 23 fraction bits. Precision 12 looks at 27, and takes it as it is.
-/// let mut image = vec![0; yildegga::LONGEST_IMAGE];
-/// yildegga::build(12, &mut image)?;
+/// let (twelve, mut image) = (Format::full(12), vec![0; Format::LONGEST_FULL]);
+/// yildegga::build(twelve, &mut image)?;
 /// let x = 1 << 23 | u64::from(1.5f32.to_bits() % (1 << 23));
-/// assert_eq!(yildegga::reciprocal(12, &image, 23, x)?, Ulps(22369621)); // 2^25 / 1.5, rounded down
+/// assert_eq!(yildegga::reciprocal(twelve, &image, 23, x)?, Ulps(22369621)); // 2^25 / 1.5, rounded down
 /// # Ok::<(), yildegga::Refused>(())
 /// ```
 #[inline]
-pub fn reciprocal(k: u32, image: &[u8], n: u32, x: u64) -> Result<Ulps, Refused> {
-    served(yildegga_sys::reciprocal(k, image, n, x)).map(Ulps)
+pub fn reciprocal(format: Format, image: &[u8], n: u32, x: u64) -> Result<Ulps, Refused> {
+    served(yildegga_sys::reciprocal(format.numbers(), image, n, x)).map(Ulps)
 }

@@ -7,9 +7,9 @@ use yildegga_sys::Answer;
 /// Why a call is turned back. Where several apply, the one with the lowest number is given.
 ///
 /// ```
-/// use yildegga::Refusal;
+/// use yildegga::{Format, Refusal};
 /// // The precision and the fraction bits both break a limit.
-/// let refused = yildegga::reciprocal(13, &[], 99, 0).unwrap_err();
+/// let refused = yildegga::reciprocal(Format::plain(13), &[], 99, 0).unwrap_err();
 /// assert_eq!(refused.refusal(), Refusal::Precision);
 /// ```
 #[derive(Clone, Copy, Debug, PartialEq, Eq, PartialOrd, Ord, Hash)]
@@ -17,7 +17,7 @@ use yildegga_sys::Answer;
 pub enum Refusal {
     /// The precision is below 1 or above 12.
     Precision = 1,
-    /// The buffer is shorter than the image of that precision.
+    /// The buffer is shorter than the image of that format.
     ShortBuffer = 2,
     /// The node number is above 2^k.
     NodeNumber = 3,
@@ -27,7 +27,7 @@ pub enum Refusal {
     NotNormalised = 5,
     /// A word that the call reads is not the construction's.
     WrongWord = 6,
-    /// A byte past the image is not zero.
+    /// A filling bit or a byte past the image is not zero.
     TailNotZero = 7,
 }
 
@@ -52,7 +52,7 @@ impl fmt::Display for Refusal {
             Refusal::FractionBits => "the fraction bits are fewer than 1 or more than 63",
             Refusal::NotNormalised => "the operand is not from 2^n to 2^(n+1) - 1",
             Refusal::WrongWord => "the word is not the construction's",
-            Refusal::TailNotZero => "a byte past the image is not zero",
+            Refusal::TailNotZero => "a filling bit or a byte past the image is not zero",
         })
     }
 }
@@ -60,13 +60,14 @@ impl fmt::Display for Refusal {
 /// A call that was turned back: the number of the refusal and its place. Every lent byte is as it was.
 ///
 /// ```
+/// use yildegga::Format;
 /// // The last bit of the image is wrong, and with it the word of node 3.
-/// let refused = yildegga::check(2, &[0x02, 0x75, 0x8B]).unwrap_err();
+/// let refused = yildegga::check(Format::plain(2), &[0x02, 0x75, 0x8B]).unwrap_err();
 /// assert_eq!(refused.to_string(), "refusal 6 at node 3: the word is not the construction's");
 ///
 /// // The image is right, and of the two bytes past it the second is not zero.
-/// let refused = yildegga::check(2, &[0x02, 0x75, 0x8A, 0x00, 0x01]).unwrap_err();
-/// assert_eq!(refused.to_string(), "refusal 7 at byte 4: a byte past the image is not zero");
+/// let refused = yildegga::check(Format::plain(2), &[0x02, 0x75, 0x8A, 0x00, 0x01]).unwrap_err();
+/// assert_eq!(refused.to_string(), "refusal 7 at byte 4: a filling bit or a byte past the image is not zero");
 /// ```
 #[derive(Clone, Copy, Debug, PartialEq, Eq, Hash)]
 pub struct Refused {
@@ -78,8 +79,8 @@ impl Refused {
     /// Which refusal it is.
     ///
     /// ```
-    /// use yildegga::Refusal;
-    /// assert_eq!(yildegga::check(2, &[]).unwrap_err().refusal(), Refusal::ShortBuffer);
+    /// use yildegga::{Format, Refusal};
+    /// assert_eq!(yildegga::check(Format::plain(2), &[]).unwrap_err().refusal(), Refusal::ShortBuffer);
     /// ```
     #[inline]
     pub const fn refusal(&self) -> Refusal {
@@ -89,20 +90,23 @@ impl Refused {
     /// The number of the refusal, 1 to 7.
     ///
     /// ```
-    /// assert_eq!(yildegga::check(2, &[]).unwrap_err().number(), 2);
+    /// use yildegga::Format;
+    /// assert_eq!(yildegga::check(Format::plain(2), &[]).unwrap_err().number(), 2);
     /// ```
     #[inline]
     pub const fn number(&self) -> u32 {
         self.refusal.number()
     }
 
-    /// In refusal 6 the lowest node whose word was read and is wrong, in refusal 7 the number of the lowest byte past the image that is
-    /// not zero, counted from 0 at the buffer's start, and 0 in the others.
+    /// In refusal 6 the lowest node whose word was read and is wrong, in refusal 7 the number of the lowest byte with a set bit behind the
+    /// last word, counted from 0 at the buffer's start, and 0 in the others.
     ///
     /// ```
-    /// assert_eq!(yildegga::check(2, &[0x02, 0x75, 0x8B]).unwrap_err().place(), 3);
-    /// assert_eq!(yildegga::check(2, &[0x02, 0x75, 0x8A, 0x00, 0x01]).unwrap_err().place(), 4);
-    /// assert_eq!(yildegga::check(2, &[]).unwrap_err().place(), 0);
+    /// use yildegga::Format;
+    /// assert_eq!(yildegga::check(Format::plain(2), &[0x02, 0x75, 0x8B]).unwrap_err().place(), 3);
+    /// assert_eq!(yildegga::check(Format::plain(2), &[0x02, 0x75, 0x8A, 0x00, 0x01]).unwrap_err().place(), 4);
+    /// assert_eq!(yildegga::check(Format::full(1), &[0x81, 0x64, 0x01]).unwrap_err().place(), 2); // a filling bit
+    /// assert_eq!(yildegga::check(Format::plain(2), &[]).unwrap_err().place(), 0);
     /// ```
     #[inline]
     pub const fn place(&self) -> u64 {

@@ -8,12 +8,12 @@ pub const TABLE_UNITS_IN_ULP: u64 = 4;
 /// A count of table units is never accepted as a count of ulps:
 ///
 /// ```
-/// let value: yildegga::TableUnits = yildegga::node(2, &[0x02, 0x75, 0x8A], 1)?;
+/// let value: yildegga::TableUnits = yildegga::node(yildegga::Format::plain(2), &[0x02, 0x75, 0x8A], 1)?;
 /// assert_eq!(value.0, 103);
 /// # Ok::<(), yildegga::Refused>(())
 /// ```
 /// ```compile_fail
-/// let value: yildegga::Ulps = yildegga::node(2, &[0x02, 0x75, 0x8A], 1)?;
+/// let value: yildegga::Ulps = yildegga::node(yildegga::Format::plain(2), &[0x02, 0x75, 0x8A], 1)?;
 /// # Ok::<(), yildegga::Refused>(())
 /// ```
 #[derive(Clone, Copy, Debug, PartialEq, Eq, PartialOrd, Ord, Hash)]
@@ -23,7 +23,7 @@ pub struct TableUnits(pub u64);
 ///
 /// ```
 /// // 2^7 / 160 is 0.8. One ulp is 1 / 2^5 at precision 2, so 25 ulps are 0.78125.
-/// let given: yildegga::Ulps = yildegga::reciprocal(2, &[0x02, 0x75, 0x8A], 7, 160)?;
+/// let given: yildegga::Ulps = yildegga::reciprocal(yildegga::Format::plain(2), &[0x02, 0x75, 0x8A], 7, 160)?;
 /// assert_eq!(given.0, 25);
 /// # Ok::<(), yildegga::Refused>(())
 /// ```

@@ -1,34 +1,40 @@
-//! Every refusal at and on both sides of its limit, with huge values too, and the order where several apply.
+//! Every refusal at and on both sides of its limit, with huge values too, and the order where several apply. In both forms.
 #![forbid(unsafe_code)]
 
 mod common;
 
-use common::{image, is_near, rule, said, LENGTHS};
-use yildegga::{build, check, image_length, node, reciprocal, word_bytes, word_range, BoundTable, Refusal, TableUnits, Ulps};
-use yildegga::{GREATEST_PRECISION, LEAST_FRACTION_BITS, LEAST_PRECISION, LONGEST_IMAGE, MOST_FRACTION_BITS, TABLE_UNITS_IN_ULP};
+use common::{both, formats, image, is_near, length, rule, said, width, words};
+use yildegga::{build, check, last_node, node, reciprocal, word_bytes, word_range, BoundTable, Format, Refusal, TableUnits, Ulps};
+use yildegga::{GREATEST_PRECISION, LEAST_FRACTION_BITS, LEAST_PRECISION, MOST_FRACTION_BITS, TABLE_UNITS_IN_ULP};
 
-fn precisions() -> Vec<u32> {
-    [0, 13, 14, 31, 32, 63, 64, 255, 256, 257, 1 << 16, (1 << 16) + 1, 1 << 31, u32::MAX - 1, u32::MAX].into_iter().chain(1..=12).collect()
+fn is_precision(k: u32) -> bool {
+    (1..=12).contains(&k)
 }
 
-/// For each precision, the image with a tail of two bytes, of which the first is not zero, at lengths about the image's. Where there is no
+/// Every format, and some whose precision is none.
+fn asked() -> impl Iterator<Item = Format> {
+    let none = [0, 13, 14, 31, 32, 63, 64, 255, 256, 257, 1 << 16, (1 << 16) + 1, 1 << 31, u32::MAX - 1, u32::MAX];
+    none.into_iter().flat_map(both).chain(formats())
+}
+
+/// For each format, the image with a tail of two bytes, of which the first is not zero, at lengths about the image's. Where there is no
 /// such image, bytes of any kind.
-fn each_buffer(mut visit: impl FnMut(u32, &[u8])) {
-    for k in precisions() {
-        let mut bytes = if (1..=12).contains(&k) { image(k) } else { vec![0x5A; 13312] };
+fn each_buffer(mut visit: impl FnMut(Format, &[u8])) {
+    for format in asked() {
+        let mut bytes = if is_precision(format.precision()) { image(format) } else { vec![0x5A; 14340] };
         let whole = bytes.len();
         bytes.extend([0xFF, 0x00]);
         for length in [0, 1, whole / 2, whole - 1, whole, whole + 1, whole + 2] {
-            visit(k, &bytes[..length]);
+            visit(format, &bytes[..length]);
         }
     }
 }
 
 /// Refusals 1 and 2, in document 01's words.
-fn first_two(k: u32, buffer: &[u8]) -> Option<(u32, u64)> {
-    if !(1..=12).contains(&k) {
+fn first_two(format: Format, buffer: &[u8]) -> Option<(u32, u64)> {
+    if !is_precision(format.precision()) {
         Some((1, 0))
-    } else if buffer.len() < LENGTHS[k as usize - 1] {
+    } else if buffer.len() < length(format) {
         Some((2, 0))
     } else {
         None
@@ -37,15 +43,15 @@ fn first_two(k: u32, buffer: &[u8]) -> Option<(u32, u64)> {
 
 #[test]
 fn of_an_image() {
-    each_buffer(|k, buffer| {
-        let expected = first_two(k, buffer).map_or(Ok(()), Err);
+    each_buffer(|format, buffer| {
+        let expected = first_two(format, buffer).map_or(Ok(()), Err);
         let has_tail = |length: &usize| buffer.len() > *length;
-        let checked = expected.and_then(|()| image_length(k).filter(has_tail).map_or(Ok(()), |length| Err((7, length as u64))));
-        assert_eq!(said(check(k, buffer)), checked, "k = {k}, {} bytes", buffer.len());
+        let checked = expected.and_then(|()| format.image_length().filter(has_tail).map_or(Ok(()), |length| Err((7, length as u64))));
+        assert_eq!(said(check(format, buffer)), checked, "{format:?}, {} bytes", buffer.len());
         let mut built = vec![0xA5; buffer.len()];
-        assert_eq!(said(build(k, &mut built)), expected, "k = {k}, {} bytes", buffer.len());
-        assert_eq!(said(check(k, &built)), expected, "k = {k}, {} bytes", buffer.len());
-        assert_eq!(image_length(k).is_none(), expected == Err((1, 0)));
+        assert_eq!(said(build(format, &mut built)), expected, "{format:?}, {} bytes", buffer.len());
+        assert_eq!(said(check(format, &built)), expected, "{format:?}, {} bytes", buffer.len());
+        assert_eq!(format.image_length().is_none(), expected == Err((1, 0)));
     });
 }
 
@@ -53,26 +59,28 @@ fn of_an_image() {
 /// before either.
 #[test]
 fn of_a_tail() {
-    for k in 1..=12 {
-        let length = LENGTHS[k as usize - 1];
+    for format in formats() {
+        let length = length(format);
+        let last_word = u64::from(words(format)) - 1;
+        let its_end = words(format) as usize * width(format) - 1;
         for more in [1, 2, 8, 63, 64, 65, 70, 4096, 100_000] {
             let mut rom = vec![0; length + more];
-            build(k, &mut rom).unwrap();
+            build(format, &mut rom).unwrap();
             let last = 8 * more - 1;
             for bit in (0..8 * more).filter(|bit| more <= 70 || [0, 1, last / 2, last].contains(bit)) {
                 let at = length + bit / 8;
                 rom[at] ^= 0x80 >> (bit % 8);
-                assert_eq!(said(check(k, &rom)), Err((7, at as u64)), "k = {k}, {more} bytes more, bit {bit}");
+                assert_eq!(said(check(format, &rom)), Err((7, at as u64)), "{format:?}, {more} bytes more, bit {bit}");
                 let end = rom[length + more - 1];
                 rom[length + more - 1] |= 0x10; // a wrong byte behind it, or the same
-                assert_eq!(said(check(k, &rom)), Err((7, at as u64)), "k = {k}, {more} bytes more, bit {bit} and the last byte");
+                assert_eq!(said(check(format, &rom)), Err((7, at as u64)), "{format:?}, {more} bytes more, bit {bit} and the last byte");
                 rom[length + more - 1] = end;
-                rom[length - 1] ^= 1; // the last bit of the last word
-                assert_eq!(said(check(k, &rom)), Err((6, (1 << k) - 1)), "k = {k}, {more} bytes more, bit {bit} and the last word");
-                rom[length - 1] ^= 1;
+                rom[its_end / 8] ^= 0x80 >> (its_end % 8); // the last bit of the last word
+                assert_eq!(said(check(format, &rom)), Err((6, last_word)), "{format:?}, {more} bytes more, bit {bit} and the last word");
+                rom[its_end / 8] ^= 0x80 >> (its_end % 8);
                 rom[at] = 0;
             }
-            assert_eq!(said(check(k, &rom)), Ok(()), "k = {k}, {more} bytes more");
+            assert_eq!(said(check(format, &rom)), Ok(()), "{format:?}, {more} bytes more");
         }
     }
 }
@@ -80,26 +88,27 @@ fn of_a_tail() {
 #[test]
 fn of_a_node() {
     let mut numbers = [0; 4];
-    each_buffer(|k, buffer| {
+    each_buffer(|format, buffer| {
+        let k = format.precision();
         let last = 1u32 << k.min(12);
         for j in [0, 1, last - 1, last, last + 1, 1 << 31, u32::MAX - 1, u32::MAX] {
-            let expected = match first_two(k, buffer) {
+            let expected = match first_two(format, buffer) {
                 Some(refused) => Err(refused),
                 None if j > last => Err((3, 0)),
                 None => Ok(TableUnits((1u64 << (3 * k + 3)).div_ceil((last + j).into()))),
             };
             numbers[expected.map_or_else(|(number, _)| number as usize, |_| 0)] += 1;
-            assert_eq!(said(node(k, buffer, j)), expected, "k = {k}, {} bytes, node {j}", buffer.len());
-            assert_eq!(said(BoundTable::new(k, buffer).node(j)), expected);
+            assert_eq!(said(node(format, buffer, j)), expected, "{format:?}, {} bytes, node {j}", buffer.len());
+            assert_eq!(said(BoundTable::new(format, buffer).node(j)), expected);
             let range = match expected {
-                Ok(_) if j < last => {
-                    let (width, j) = (2 * k as usize + 2, j as usize);
+                Ok(_) if j < words(format) => {
+                    let (width, j) = (width(format), j as usize);
                     j * width / 8..(j * width + width - 1) / 8 + 1
                 }
                 _ => 0..0,
             };
-            assert_eq!(word_range(k, buffer, j), range, "k = {k}, {} bytes, word {j}", buffer.len());
-            assert_eq!(word_bytes(k, buffer, j), &buffer[range]);
+            assert_eq!(word_range(format, buffer, j), range, "{format:?}, {} bytes, word {j}", buffer.len());
+            assert_eq!(word_bytes(format, buffer, j), &buffer[range]);
         }
     });
     assert!(numbers.iter().all(|&count| count > 100), "{numbers:?}");
@@ -108,28 +117,29 @@ fn of_a_node() {
 #[test]
 fn of_an_operand() {
     let mut numbers = [0; 6];
-    each_buffer(|k, buffer| {
+    each_buffer(|format, buffer| {
+        let k = format.precision();
         let kept = 2 * k.min(1 << 16) + 3; // the fraction bits that are looked at, where k is a precision
         for n in [0, 1, 2, kept - 1, kept, kept + 1, 31, 32, 62, 63, 64, 65, 127, 128, 1 << 31, u32::MAX] {
             let one = 1u64.checked_shl(n).unwrap_or(1 << 63);
             let ends = [one - 1, one, one + 1, one | (one - 1), (one | (one - 1)).wrapping_add(1)];
             for x in ends.into_iter().chain([0, 1, 1 << 32, 1 << 63, u64::MAX - 1, u64::MAX]) {
-                let expected = match first_two(k, buffer) {
+                let expected = match first_two(format, buffer) {
                     Some((number, _)) => number,
                     None if n < 1 || n > 63 => 4,
                     None if u128::from(x) < 1 << n || u128::from(x) >= 2 << n => 5,
                     None => 0,
                 };
                 numbers[expected as usize] += 1;
-                let answer = said(reciprocal(k, buffer, n, x));
-                assert_eq!(said(BoundTable::new(k, buffer).reciprocal(n, x)), answer);
+                let answer = said(reciprocal(format, buffer, n, x));
+                assert_eq!(said(BoundTable::new(format, buffer).reciprocal(n, x)), answer);
                 match answer {
                     Ok(r) => {
-                        assert_eq!(expected, 0, "k = {k}, {} bytes, n = {n}, X = {x}", buffer.len());
-                        assert_eq!(r, rule(k, n, x), "k = {k}, n = {n}, X = {x}");
-                        assert!(is_near(k, n, x, r), "k = {k}, n = {n}, X = {x}");
+                        assert_eq!(expected, 0, "{format:?}, {} bytes, n = {n}, X = {x}", buffer.len());
+                        assert_eq!(r, rule(k, n, x), "{format:?}, n = {n}, X = {x}");
+                        assert!(is_near(k, n, x, r), "{format:?}, n = {n}, X = {x}");
                     }
-                    Err(refused) => assert_eq!(refused, (expected, 0), "k = {k}, {} bytes, n = {n}, X = {x}", buffer.len()),
+                    Err(refused) => assert_eq!(refused, (expected, 0), "{format:?}, {} bytes, n = {n}, X = {x}", buffer.len()),
                 }
             }
         }
@@ -137,26 +147,29 @@ fn of_an_operand() {
     assert!([0, 1, 2, 4, 5].iter().all(|&number| numbers[number] > 100), "{numbers:?}");
 }
 
-/// Each bit of the small images damaged: the word that holds it is named, wherever it is read and nowhere else.
+/// Each bit of the words of the small images damaged: the word that holds it is named, wherever it is read and nowhere else.
 #[test]
 fn of_a_wrong_word() {
-    for k in 1..=5 {
-        let right = image(k);
-        for bit in 0..8 * right.len() {
+    for format in (1..=5).flat_map(both) {
+        let (k, right) = (format.precision(), image(format));
+        for bit in 0..words(format) as usize * width(format) {
             let mut wrong = right.clone();
             wrong[bit / 8] ^= 0x80 >> (bit % 8);
-            let bad = (bit / (2 * k as usize + 2)) as u32;
-            assert_eq!(said(check(k, &wrong)), Err((6, bad.into())), "k = {k}, bit {bit}");
-            let table = BoundTable::new(k, &wrong);
-            for j in 0..1 << k {
-                let value = said(node(k, &wrong, j));
-                assert_eq!(value, if j == bad { Err((6, bad.into())) } else { said(node(k, &right, j)) });
+            let bad = (bit / width(format)) as u32;
+            assert_eq!(said(check(format, &wrong)), Err((6, bad.into())), "{format:?}, bit {bit}");
+            let table = BoundTable::new(format, &wrong);
+            for j in 0..=1 << k {
+                let value = said(node(format, &wrong, j));
+                assert_eq!(value, if j == bad { Err((6, bad.into())) } else { said(node(format, &right, j)) });
                 assert_eq!(said(table.node(j)), value);
+                if j == 1 << k {
+                    continue; // no operand stands at the last node
+                }
                 let reads_it = j == bad || j + 1 == bad;
                 for n in [k, 2 * k + 2, 2 * k + 3, 63] {
                     let x = ((1 << k) + u64::from(j)) << (n - k); // node j itself; the word of j + 1 is read too
-                    let r = said(reciprocal(k, &wrong, n, x));
-                    assert_eq!(r, if reads_it { Err((6, bad.into())) } else { Ok(rule(k, n, x)) }, "k = {k}, bit {bit}, n = {n}");
+                    let r = said(reciprocal(format, &wrong, n, x));
+                    assert_eq!(r, if reads_it { Err((6, bad.into())) } else { Ok(rule(k, n, x)) }, "{format:?}, bit {bit}, n = {n}");
                     assert_eq!(said(table.reciprocal(n, x)), r);
                 }
             }
@@ -167,45 +180,59 @@ fn of_a_wrong_word() {
 /// Where every word is wrong, the lower limits still come first.
 #[test]
 fn before_a_wrong_word() {
-    for k in 1..=12 {
-        let wrong: Vec<u8> = image(k).iter().map(|byte| !byte).collect();
+    for format in formats() {
+        let k = format.precision();
+        let wrong: Vec<u8> = image(format).iter().map(|byte| !byte).collect();
         let last = 1 << k;
-        assert_eq!(said(check(k, &wrong)), Err((6, 0)));
-        assert_eq!(said(check(k, &wrong[1..])), Err((2, 0)));
-        assert_eq!(said(node(k, &wrong, last - 1)), Err((6, u64::from(last) - 1)));
-        assert_eq!(said(node(k, &wrong, last)), Ok(TableUnits(1 << (2 * k + 2)))); // it reads no word
-        assert_eq!(said(node(k, &wrong, last + 1)), Err((3, 0)));
+        assert_eq!(said(check(format, &wrong)), Err((6, 0)));
+        assert_eq!(said(check(format, &wrong[1..])), Err((2, 0)));
+        assert_eq!(said(node(format, &wrong, last - 1)), Err((6, u64::from(last) - 1)));
+        let of_the_last = if format == Format::plain(k) { Ok(TableUnits(1 << (2 * k + 2))) } else { Err((6, last.into())) };
+        assert_eq!(said(node(format, &wrong, last)), of_the_last); // plain, it reads no word
+        assert_eq!(said(node(format, &wrong, last + 1)), Err((3, 0)));
         for n in [k, 2 * k + 2, 2 * k + 3] {
-            assert_eq!(said(reciprocal(k, &wrong, n, 1 << n)), Err((6, 0)));
-            assert_eq!(said(reciprocal(k, &wrong, n, (2 << n) - 1)), Err((6, u64::from(last) - 1)));
-            assert_eq!(said(reciprocal(k, &wrong, n, (1 << n) - 1)), Err((5, 0)));
-            assert_eq!(said(reciprocal(k, &wrong, n, 2 << n)), Err((5, 0)));
+            assert_eq!(said(reciprocal(format, &wrong, n, 1 << n)), Err((6, 0)));
+            assert_eq!(said(reciprocal(format, &wrong, n, (2 << n) - 1)), Err((6, u64::from(last) - 1)));
+            assert_eq!(said(reciprocal(format, &wrong, n, (1 << n) - 1)), Err((5, 0)));
+            assert_eq!(said(reciprocal(format, &wrong, n, 2 << n)), Err((5, 0)));
         }
-        assert_eq!(said(reciprocal(k, &wrong, 1, 3)), Err((6, u64::from(last) / 2))); // 3 / 2 is the node in the middle
-        assert_eq!(said(reciprocal(k, &wrong, 0, 0)), Err((4, 0)));
-        assert_eq!(said(reciprocal(k, &wrong, 0, 1)), Err((4, 0)));
-        assert_eq!(said(reciprocal(k, &wrong, 64, 0)), Err((4, 0)));
-        assert_eq!(said(reciprocal(k, &wrong[1..], 64, 0)), Err((2, 0)));
-        assert_eq!(said(reciprocal(k + 12, &wrong[1..], 64, 0)), Err((1, 0)));
+        assert_eq!(said(reciprocal(format, &wrong, 1, 3)), Err((6, u64::from(last) / 2))); // 3 / 2 is the node in the middle
+        assert_eq!(said(reciprocal(format, &wrong, 0, 0)), Err((4, 0)));
+        assert_eq!(said(reciprocal(format, &wrong, 0, 1)), Err((4, 0)));
+        assert_eq!(said(reciprocal(format, &wrong, 64, 0)), Err((4, 0)));
+        assert_eq!(said(reciprocal(format, &wrong[1..], 64, 0)), Err((2, 0)));
+        for no_precision in both(k + 12) {
+            assert_eq!(said(reciprocal(no_precision, &wrong[1..], 64, 0)), Err((1, 0)));
+        }
     }
 }
 
 #[test]
 fn limits_by_name() {
-    assert_eq!((image_length(LEAST_PRECISION - 1), image_length(LEAST_PRECISION)), (None, Some(1)));
-    assert_eq!((image_length(GREATEST_PRECISION), image_length(GREATEST_PRECISION + 1)), (Some(LONGEST_IMAGE), None));
-    let two = image(2);
-    assert_eq!(said(reciprocal(2, &two, LEAST_FRACTION_BITS, 2)), Ok(Ulps(32)));
-    assert_eq!(said(reciprocal(2, &two, LEAST_FRACTION_BITS - 1, 1)), Err((4, 0)));
-    assert_eq!(said(reciprocal(2, &two, MOST_FRACTION_BITS, 1 << 63)), Ok(Ulps(32)));
-    assert_eq!(said(reciprocal(2, &two, MOST_FRACTION_BITS + 1, 1 << 63)), Err((4, 0)));
-    // At a node itself the reciprocal is the node, in ulps rounded down.
-    for k in 1..=12 {
-        let image = image(k);
-        for j in 0..1 << k {
-            let TableUnits(c) = node(k, &image, j).unwrap();
+    for (least, below) in both(LEAST_PRECISION).into_iter().zip(both(LEAST_PRECISION - 1)) {
+        assert_eq!((below.image_length(), least.image_length()), (None, Some(length(least))));
+    }
+    for (greatest, above) in both(GREATEST_PRECISION).into_iter().zip(both(GREATEST_PRECISION + 1)) {
+        assert_eq!((greatest.image_length(), above.image_length()), (Some(length(greatest)), None));
+    }
+    assert_eq!((Format::LONGEST_PLAIN, Format::LONGEST_FULL), (length(Format::plain(12)), length(Format::full(12))));
+    for format in both(2) {
+        let two = image(format);
+        assert_eq!(said(reciprocal(format, &two, LEAST_FRACTION_BITS, 2)), Ok(Ulps(32)));
+        assert_eq!(said(reciprocal(format, &two, LEAST_FRACTION_BITS - 1, 1)), Err((4, 0)));
+        assert_eq!(said(reciprocal(format, &two, MOST_FRACTION_BITS, 1 << 63)), Ok(Ulps(32)));
+        assert_eq!(said(reciprocal(format, &two, MOST_FRACTION_BITS + 1, 1 << 63)), Err((4, 0)));
+    }
+    for format in formats() {
+        let (k, image) = (format.precision(), image(format));
+        let last = last_node(k).unwrap();
+        assert!(node(format, &image, last).is_ok());
+        assert_eq!(said(node(format, &image, last + 1)), Err((3, 0)));
+        // At a node itself the reciprocal is the node, in ulps rounded down.
+        for j in 0..last {
+            let TableUnits(c) = node(format, &image, j).unwrap();
             let x = ((1 << k) + u64::from(j)) << (63 - k);
-            assert_eq!(said(reciprocal(k, &image, 63, x)), Ok(Ulps(c / TABLE_UNITS_IN_ULP)), "k = {k}, node {j}");
+            assert_eq!(said(reciprocal(format, &image, 63, x)), Ok(Ulps(c / TABLE_UNITS_IN_ULP)), "{format:?}, node {j}");
         }
     }
 }
@@ -213,16 +240,34 @@ fn limits_by_name() {
 /// The name, the number and the text of each refusal, as a caller meets them.
 #[test]
 fn in_words() {
+    let plain = Format::plain(2);
     let two = [0x02, 0x75, 0x8B];
     let tail = [0x02, 0x75, 0x8A, 0x00, 0x01];
+    let filling = [0x81, 0x64, 0x20];
     let met = [
-        (check(0, &two).unwrap_err(), Refusal::Precision, 1, "refusal 1: the precision is below 1 or above 12"),
-        (check(2, &[]).unwrap_err(), Refusal::ShortBuffer, 2, "refusal 2: the buffer is shorter than the image"),
-        (node(2, &two, 5).unwrap_err(), Refusal::NodeNumber, 3, "refusal 3: the node number is above 2^k"),
-        (reciprocal(2, &two, 0, 1).unwrap_err(), Refusal::FractionBits, 4, "refusal 4: the fraction bits are fewer than 1 or more than 63"),
-        (reciprocal(2, &two, 7, 127).unwrap_err(), Refusal::NotNormalised, 5, "refusal 5: the operand is not from 2^n to 2^(n+1) - 1"),
-        (check(2, &two).unwrap_err(), Refusal::WrongWord, 6, "refusal 6 at node 3: the word is not the construction's"),
-        (check(2, &tail).unwrap_err(), Refusal::TailNotZero, 7, "refusal 7 at byte 4: a byte past the image is not zero"),
+        (check(Format::plain(0), &two).unwrap_err(), Refusal::Precision, 1, "refusal 1: the precision is below 1 or above 12"),
+        (check(plain, &[]).unwrap_err(), Refusal::ShortBuffer, 2, "refusal 2: the buffer is shorter than the image"),
+        (node(plain, &two, 5).unwrap_err(), Refusal::NodeNumber, 3, "refusal 3: the node number is above 2^k"),
+        (
+            reciprocal(plain, &two, 0, 1).unwrap_err(),
+            Refusal::FractionBits,
+            4,
+            "refusal 4: the fraction bits are fewer than 1 or more than 63",
+        ),
+        (reciprocal(plain, &two, 7, 127).unwrap_err(), Refusal::NotNormalised, 5, "refusal 5: the operand is not from 2^n to 2^(n+1) - 1"),
+        (check(plain, &two).unwrap_err(), Refusal::WrongWord, 6, "refusal 6 at node 3: the word is not the construction's"),
+        (
+            check(plain, &tail).unwrap_err(),
+            Refusal::TailNotZero,
+            7,
+            "refusal 7 at byte 4: a filling bit or a byte past the image is not zero",
+        ),
+        (
+            check(Format::full(1), &filling).unwrap_err(),
+            Refusal::TailNotZero,
+            7,
+            "refusal 7 at byte 2: a filling bit or a byte past the image is not zero",
+        ),
     ];
     for (refused, refusal, number, text) in met {
         assert_eq!((refused.refusal(), refused.number(), refusal.number()), (refusal, number, number));

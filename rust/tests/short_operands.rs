@@ -3,23 +3,24 @@
 
 mod common;
 
-use common::{image, is_near, rule, said};
-use yildegga::{reciprocal, BoundTable, Ulps};
+use common::{both, formats, image, is_near, rule, said};
+use yildegga::{reciprocal, BoundTable, Format, Ulps};
 
 /// What is given for an operand that keeps its limits, through a bound table too.
-fn given(k: u32, image: &[u8], n: u32, x: u64) -> Ulps {
-    let plain = reciprocal(k, image, n, x);
-    assert_eq!(BoundTable::new(k, image).reciprocal(n, x), plain);
-    plain.unwrap_or_else(|refused| panic!("k = {k}, n = {n}, X = {x}: {refused}"))
+fn given(format: Format, image: &[u8], n: u32, x: u64) -> Ulps {
+    let answer = reciprocal(format, image, n, x);
+    assert_eq!(BoundTable::new(format, image).reciprocal(n, x), answer);
+    answer.unwrap_or_else(|refused| panic!("{format:?}, n = {n}, X = {x}: {refused}"))
 }
 
 /// R is the rule's, less than an ulp off, and that of the operand which the caller has padded, to as many bits as are looked at and to 63.
-fn see(k: u32, image: &[u8], n: u32, x: u64) {
-    let r = given(k, image, n, x);
-    assert_eq!(r, rule(k, n, x), "k = {k}, n = {n}, X = {x}");
-    assert!(is_near(k, n, x, r), "k = {k}, n = {n}, X = {x}: {r:?}");
+fn see(format: Format, image: &[u8], n: u32, x: u64) {
+    let k = format.precision();
+    let r = given(format, image, n, x);
+    assert_eq!(r, rule(k, n, x), "{format:?}, n = {n}, X = {x}");
+    assert!(is_near(k, n, x, r), "{format:?}, n = {n}, X = {x}: {r:?}");
     for longer in [2 * k + 3, 63] {
-        assert_eq!(given(k, image, longer, x << (longer - n)), r, "k = {k}, n = {n}, X = {x}, padded to {longer}");
+        assert_eq!(given(format, image, longer, x << (longer - n)), r, "{format:?}, n = {n}, X = {x}, padded to {longer}");
     }
 }
 
@@ -27,17 +28,17 @@ fn see(k: u32, image: &[u8], n: u32, x: u64) {
 #[test]
 fn are_served() {
     let mut state = 1u64;
-    for k in 1..=12 {
-        let image = image(k);
+    for format in formats() {
+        let (k, image) = (format.precision(), image(format));
         for n in 1..=2 * k + 2 {
             let one = 1u64 << n;
             if k <= 8 {
-                (one..2 * one).for_each(|x| see(k, &image, n, x));
+                (one..2 * one).for_each(|x| see(format, &image, n, x));
             } else {
-                [one, one + 1, 2 * one - 2, 2 * one - 1].into_iter().for_each(|x| see(k, &image, n, x));
+                [one, one + 1, 2 * one - 2, 2 * one - 1].into_iter().for_each(|x| see(format, &image, n, x));
                 for _ in 0..300 {
                     state = state.wrapping_mul(6364136223846793005).wrapping_add(1442695040888963407);
-                    see(k, &image, n, one + (state >> (64 - n)));
+                    see(format, &image, n, one + (state >> (64 - n)));
                 }
             }
         }
@@ -46,19 +47,19 @@ fn are_served() {
 
 #[test]
 fn at_the_ends() {
-    for k in 1..=12 {
-        let image = image(k);
+    for format in formats() {
+        let (k, image) = (format.precision(), image(format));
         for n in 1..=2 * k + 2 {
             let one = 1u64 << n;
-            assert_eq!(said(reciprocal(k, &image, n, one)), Ok(Ulps(2 << (2 * k))), "k = {k}, n = {n}");
-            assert!(reciprocal(k, &image, n, 2 * one - 1).is_ok_and(|r| r >= Ulps(1 << (2 * k))), "k = {k}, n = {n}");
+            assert_eq!(said(reciprocal(format, &image, n, one)), Ok(Ulps(2 << (2 * k))), "{format:?}, n = {n}");
+            assert!(reciprocal(format, &image, n, 2 * one - 1).is_ok_and(|r| r >= Ulps(1 << (2 * k))), "{format:?}, n = {n}");
             for x in [0, 1, one - 1, 2 * one, 1 << 63, u64::MAX] {
-                assert_eq!(said(reciprocal(k, &image, n, x)), Err((5, 0)), "k = {k}, n = {n}, X = {x}");
+                assert_eq!(said(reciprocal(format, &image, n, x)), Err((5, 0)), "{format:?}, n = {n}, X = {x}");
             }
         }
         for x in [0, 1, 2, 1 << 63, u64::MAX] {
-            assert_eq!(said(reciprocal(k, &image, 0, x)), Err((4, 0)), "k = {k}, X = {x}");
-            assert_eq!(said(reciprocal(k, &image, 64, x)), Err((4, 0)), "k = {k}, X = {x}");
+            assert_eq!(said(reciprocal(format, &image, 0, x)), Err((4, 0)), "{format:?}, X = {x}");
+            assert_eq!(said(reciprocal(format, &image, 64, x)), Err((4, 0)), "{format:?}, X = {x}");
         }
     }
 }
@@ -66,20 +67,22 @@ fn at_the_ends() {
 /// Bits written to the right of 64, which has 6 fraction bits, leave R as it is where the one that precision 2 still looks at is zero.
 #[test]
 fn with_bits_to_the_right() {
-    let two = image(2);
-    assert_eq!(given(2, &two, 6, 64), Ulps(32));
-    assert_eq!((given(2, &two, 7, 128), given(2, &two, 7, 129)), (Ulps(32), Ulps(31)));
-    assert_eq!((given(2, &two, 8, 256), given(2, &two, 8, 257), given(2, &two, 8, 258)), (Ulps(32), Ulps(32), Ulps(31)));
-    assert_eq!(given(2, &two, 63, (1 << 63) + (1 << 56) - 1), Ulps(32));
-    assert_eq!(given(2, &two, 63, (1 << 63) + (1 << 56)), Ulps(31));
+    let (format, two) = (Format::plain(2), image(Format::plain(2)));
+    assert_eq!(given(format, &two, 6, 64), Ulps(32));
+    assert_eq!((given(format, &two, 7, 128), given(format, &two, 7, 129)), (Ulps(32), Ulps(31)));
+    assert_eq!((given(format, &two, 8, 256), given(format, &two, 8, 257), given(format, &two, 8, 258)), (Ulps(32), Ulps(32), Ulps(31)));
+    assert_eq!(given(format, &two, 63, (1 << 63) + (1 << 56) - 1), Ulps(32));
+    assert_eq!(given(format, &two, 63, (1 << 63) + (1 << 56)), Ulps(31));
 }
 
 /// The significand of an `f32`, with its leading one, is an operand of 23 fraction bits. Precision 12 looks at 27.
 #[test]
 fn significands_of_binary32() {
-    let twelve = image(12);
-    let r = |float: f32| given(12, &twelve, 23, 1 << 23 | u64::from(float.to_bits() % (1 << 23)));
-    assert_eq!((r(1.0), r(1.5), r(3.0)), (Ulps(33554432), Ulps(22369621), Ulps(22369621)));
-    assert_eq!(r(2.0 - f32::EPSILON), Ulps(16777217));
-    assert_eq!(r(1.0 + f32::EPSILON), Ulps(33554428));
+    for format in both(12) {
+        let twelve = image(format);
+        let r = |float: f32| given(format, &twelve, 23, 1 << 23 | u64::from(float.to_bits() % (1 << 23)));
+        assert_eq!((r(1.0), r(1.5), r(3.0)), (Ulps(33554432), Ulps(22369621), Ulps(22369621)));
+        assert_eq!(r(2.0 - f32::EPSILON), Ulps(16777217));
+        assert_eq!(r(1.0 + f32::EPSILON), Ulps(33554428));
+    }
 }

@@ -21,13 +21,28 @@
 #[cfg(not(all(target_arch = "x86_64", target_os = "linux", target_pointer_width = "64")))]
 compile_error!("libyildegga.a is made for Linux on x86-64");
 
+/// The table that a call is asked for, `yildegga_format`: its precision, and its form by number.
+#[repr(C)]
+#[derive(Clone, Copy, Debug, PartialEq, Eq)]
+pub struct Format {
+    /// The precision k.
+    pub precision: u32,
+    /// [`PLAIN_WORDS`], or any other number for full words.
+    pub form: u32,
+}
+
+/// The form of plain words, by its number.
+pub const PLAIN_WORDS: u32 = 0;
+/// The form of full words, by its number.
+pub const FULL_WORDS: u32 = 1;
+
 /// What a call answers: `yildegga_done`, `yildegga_node_read` and `yildegga_reciprocal_given`, which have one layout.
 #[repr(C)]
 #[derive(Clone, Copy, Debug, PartialEq, Eq)]
 pub struct Answer {
     /// 0 where the call is served, else the number of the refusal.
     pub number: u32,
-    /// The lowest node whose word is wrong in refusal 6, the lowest byte past the image that is not zero in refusal 7, else 0.
+    /// The lowest node whose word is wrong in refusal 6, the lowest byte with a set bit behind the last word in refusal 7, else 0.
     pub place: u64,
     /// The node in table units, the reciprocal in ulps, or 0.
     pub value: u64,
@@ -52,41 +67,41 @@ pub struct Part {
 }
 
 extern "C" {
-    fn yildegga_image_length(k: u32) -> usize;
-    fn yildegga_build(k: u32, image: *mut u8, length: usize) -> Answer;
-    fn yildegga_check(k: u32, image: *const u8, length: usize) -> Answer;
-    fn yildegga_node(k: u32, image: *const u8, length: usize, j: u32) -> Answer;
+    fn yildegga_image_length(format: Format) -> usize;
+    fn yildegga_build(format: Format, image: *mut u8, length: usize) -> Answer;
+    fn yildegga_check(format: Format, image: *const u8, length: usize) -> Answer;
+    fn yildegga_node(format: Format, image: *const u8, length: usize, j: u32) -> Answer;
     fn yildegga_node_8(j: u32) -> TableUnits;
-    fn yildegga_word_bytes(k: u32, image: *const u8, length: usize, j: u32) -> Part;
-    fn yildegga_reciprocal(k: u32, image: *const u8, length: usize, n: u32, x: u64) -> Answer;
+    fn yildegga_word_bytes(format: Format, image: *const u8, length: usize, j: u32) -> Part;
+    fn yildegga_reciprocal(format: Format, image: *const u8, length: usize, n: u32, x: u64) -> Answer;
 }
 
-/// The bytes of the image of precision k, 0 where k is no precision.
+/// The bytes of the image, 0 where there is no such precision.
 #[inline]
-pub fn image_length(k: u32) -> usize {
-    // SAFETY: it takes a number alone.
-    unsafe { yildegga_image_length(k) }
+pub fn image_length(format: Format) -> usize {
+    // SAFETY: it takes numbers alone.
+    unsafe { yildegga_image_length(format) }
 }
 
-/// Writes the image of precision k at the front of the buffer, and zeros behind it to the end.
+/// Writes the image at the front of the buffer, and zeros behind it to the end.
 #[inline]
-pub fn build(k: u32, image: &mut [u8]) -> Answer {
+pub fn build(format: Format, image: &mut [u8]) -> Answer {
     // SAFETY: pointer and length are those of one slice, which is lent for writing until the call returns.
-    unsafe { yildegga_build(k, image.as_mut_ptr(), image.len()) }
+    unsafe { yildegga_build(format, image.as_mut_ptr(), image.len()) }
 }
 
-/// Whether every word of the image is the construction's and every byte past it is zero.
+/// Whether every word of the image is the construction's and every bit behind them is zero.
 #[inline]
-pub fn check(k: u32, image: &[u8]) -> Answer {
+pub fn check(format: Format, image: &[u8]) -> Answer {
     // SAFETY: pointer and length are those of one slice.
-    unsafe { yildegga_check(k, image.as_ptr(), image.len()) }
+    unsafe { yildegga_check(format, image.as_ptr(), image.len()) }
 }
 
 /// The value of node j, in table units.
 #[inline]
-pub fn node(k: u32, image: &[u8], j: u32) -> Answer {
+pub fn node(format: Format, image: &[u8], j: u32) -> Answer {
     // SAFETY: pointer and length are those of one slice.
-    unsafe { yildegga_node(k, image.as_ptr(), image.len(), j) }
+    unsafe { yildegga_node(format, image.as_ptr(), image.len(), j) }
 }
 
 /// Node j of precision 8, by the list of constants.
@@ -98,14 +113,14 @@ pub fn node_8(j: u32) -> TableUnits {
 
 /// Where the word of node j stands in the image.
 #[inline]
-pub fn word_bytes(k: u32, image: &[u8], j: u32) -> Part {
+pub fn word_bytes(format: Format, image: &[u8], j: u32) -> Part {
     // SAFETY: pointer and length are those of one slice.
-    unsafe { yildegga_word_bytes(k, image.as_ptr(), image.len(), j) }
+    unsafe { yildegga_word_bytes(format, image.as_ptr(), image.len(), j) }
 }
 
 /// The reciprocal of the operand x, which has n fraction bits, in ulps.
 #[inline]
-pub fn reciprocal(k: u32, image: &[u8], n: u32, x: u64) -> Answer {
+pub fn reciprocal(format: Format, image: &[u8], n: u32, x: u64) -> Answer {
     // SAFETY: pointer and length are those of one slice.
-    unsafe { yildegga_reciprocal(k, image.as_ptr(), image.len(), n, x) }
+    unsafe { yildegga_reciprocal(format, image.as_ptr(), image.len(), n, x) }
 }
