@@ -1,4 +1,4 @@
-"""Tests of the Rust crate in rust/: its own tests and documentation, its three examples against reference.py, and what its files owe."""
+"""Tests of the Rust crate in rust/: its own tests and documentation, its four examples against reference.py, and what its files owe."""
 import functools
 import os
 import pathlib
@@ -97,23 +97,22 @@ def nothing_fetched():
 
 def declared():
     """Each declaration is an exported function of crates/yildegga with its parameters, a slice as pointer and length, and each exported
-    function is declared; the structs have the fields of those that it answers by."""
-    exported = (ROOT / "crates" / "yildegga" / "src" / "lib.rt").read_text()
-    answers = (ROOT / "crates" / "answers" / "src" / "lib.rt").read_text()
-    units = (ROOT / "crates" / "units" / "src" / "lib.rt").read_text()
+    function is declared; the structs have the fields of those that it is asked and answers by."""
+    exported, answers, formats, units = ((ROOT / "crates" / name / "src" / "lib.rt").read_text()
+                                        for name in ("yildegga", "answers", "format", "units"))
     ours = DECLARATIONS.read_text()
 
     def structs(text):
         found = re.findall(r"#\[repr\(C\)\]\n(?:#\[.*\]\n)*pub struct (\w+) \{\n((?:    .*\n)*)\}", text)
         return {name: re.findall(r"^\s*pub (\w+: \w+),$", fields, re.M) for name, fields in found}
 
-    theirs = structs(answers)
+    theirs = structs(answers) | structs(formats)
     for unit in ("TableUnits", "Ulps"):
         if f"pub struct {unit}(pub u64);" not in units:
             return f"{unit} is not a u64"
     if structs(ours)["TableUnits"] != ["count: u64"]:
         return f"table units are {structs(ours)['TableUnits']}"
-    same = {"Done": "Answer", "NodeRead": "Answer", "ReciprocalGiven": "Answer", "Part": "Part"}
+    same = {"Done": "Answer", "NodeRead": "Answer", "ReciprocalGiven": "Answer", "Part": "Part", "FormatNumbers": "Format"}
     for name, our in same.items():
         if [re.sub(r"TableUnits|Ulps", "u64", field) for field in theirs[name]] != structs(ours)[our]:
             return f"{name} has {theirs[name]}, {our} has {structs(ours)[our]}"
@@ -121,8 +120,10 @@ def declared():
     def functions(text, pattern):
         return {(name, parameters, same.get(answer, answer)) for name, parameters, answer in re.findall(pattern, text)}
 
+    # `rt fmt` gives each parameter a line where one line has no room for all.
+    exported = re.sub(r"\(\n([^()]*),\n\)", lambda found: f"({' '.join(found[1].split())})", exported)
     slices = exported.replace("&mut [u8]", "*mut u8, length: usize").replace("&[u8]", "*const u8, length: usize")
-    there = functions(slices, r'#\[unsafe\(no_mangle\)\]\s*pub extern "C" fn (\w+)\((.*)\) -> (\w+)')
+    there = functions(slices.replace(": FormatNumbers", ": Format"), r'#\[unsafe\(no_mangle\)\]\s*pub extern "C" fn (\w+)\((.*)\) -> (\w+)')
     here = functions(ours, r"\n    fn (\w+)\((.*)\) -> (\w+);")
     if not there:
         return "no exported function was found"
@@ -133,21 +134,26 @@ def declared():
 
 HEAD = "use yildegga::*;\npub fn trial(image: &mut [u8]) -> Result<usize, Refused> {\n"
 REFUSED = {
-    "units and lent bytes as they should be": (None, """
-        build(2, image)?;
-        let table = BoundTable::new(2, image);
+    "formats, units and lent bytes as they should be": (None, """
+        let two = Format::plain(2);
+        build(two, image)?;
+        let table = BoundTable::new(two, image);
         let (c, r): (TableUnits, Ulps) = (table.node(1)?, table.reciprocal(7, 135)?);
-        let part: &[u8] = word_bytes(2, image, 1);
+        let part: &[u8] = word_bytes(two, image, 1);
         let shown = part.len();
         image[0] = 0;
         Ok(shown + (c.0 + r.0) as usize)"""),
-    "table units as ulps": ("E0308", "let value: Ulps = node(2, image, 1)?;\nOk(value.0 as usize)"),
-    "ulps as table units": ("E0308", "let value: TableUnits = reciprocal(2, image, 7, 135)?;\nOk(value.0 as usize)"),
+    "table units as ulps": ("E0308", "let value: Ulps = node(Format::plain(2), image, 1)?;\nOk(value.0 as usize)"),
+    "ulps as table units": ("E0308", "let value: TableUnits = reciprocal(Format::plain(2), image, 7, 135)?;\nOk(value.0 as usize)"),
     "table units compared with ulps": ("E0308", "Ok((TableUnits(1) == Ulps(1)) as usize)"),
-    "an image changed while a table is bound to it": ("E0506", "let table = BoundTable::new(2, image);\nimage[0] = 0;\n"
+    "a precision as a format": ("E0308", "check(2, image)?;\nOk(0)"),
+    "a format made of its parts": ("E0451", "check(Format { precision: 2, form: Form::Full }, image)?;\nOk(0)"),
+    "an image changed while a table is bound to it": ("E0506", "let table = BoundTable::new(Format::plain(2), image);\nimage[0] = 0;\n"
                                                              "table.node(0)?;\nOk(0)"),
-    "an image built while a word of it is held": ("E0502", "let part = word_bytes(2, image, 1);\nbuild(2, image)?;\nOk(part.len())"),
-    "a word kept longer than its image": ("E0597", "let part = { let own = image.to_vec(); word_bytes(2, &own, 1) };\nOk(part.len())"),
+    "an image built while a word of it is held": ("E0502", "let part = word_bytes(Format::full(2), image, 1);\n"
+                                                         "build(Format::full(2), image)?;\nOk(part.len())"),
+    "a word kept longer than its image": ("E0597", "let part = { let own = image.to_vec(); word_bytes(Format::plain(2), &own, 1) };\n"
+                                                 "Ok(part.len())"),
 }
 
 
@@ -173,12 +179,12 @@ def compiled(name):
 OTHER_ARCHIVE = """
 #include <stddef.h>
 #include <stdint.h>
+struct format { uint32_t precision; uint32_t form; };
 struct answer { uint32_t number; uint64_t place; uint64_t value; };
-size_t yildegga_image_length(uint32_t k) { return k; }
-struct answer yildegga_build(uint32_t k, uint8_t *image, size_t length)
+struct answer yildegga_build(struct format format, uint8_t *image, size_t length)
 {
     for (size_t at = 0; at < length; at++)
-        image[at] = (uint8_t)k;
+        image[at] = (uint8_t)(16 * format.form + format.precision);
     return (struct answer) {0, 0, 0};
 }
 """
@@ -209,14 +215,14 @@ def archive_found():
         why = end(run(["gcc", "-O1", "-fPIC", "-c", "other.c", "-o", "other.o"], cwd=folder))
         (lib / "libyildegga.a").unlink()
         why = why or end(run(["ar", "rc", lib / "libyildegga.a", "other.o"], cwd=folder)) or end(build())
-        return why or (None if order() == b"\2\2" else f"with another archive ordered {order()!r}")
+        return why or (None if order() == b"\2\2\2" else f"with another archive ordered {order()!r}")
 
 
 # ---- the examples
 
 @functools.cache
 def examples():
-    """The folder with the three programs."""
+    """The folder with the four programs."""
     why = end(cargo("build", "--examples"))
     assert why is None, why
     return BUILT / "debug" / "examples"
@@ -248,6 +254,16 @@ def ordered():
                 if why or rom.read_bytes() != full_rom(k, size):
                     return why or f"precision {k}, {size} bytes: {rom.read_bytes()[:40].hex(' ')}"
         return None if (pathlib.Path(folder) / "image 2").read_bytes() == bytes.fromhex("02758A") else "the image of precision 2"
+
+
+def bench_words():
+    """Each word of a full image is the node, that of the last node too."""
+    for k in range(1, 13):
+        nodes = "".join(f"{j} {reference.node(k, j)}\n" for j in range(2 ** k + 1))
+        why = differs(["bench_words", k], example(["bench_words", str(k)]), 0, nodes)
+        if why:
+            return why
+    return None
 
 
 def proofread():
@@ -320,13 +336,16 @@ MISTAKES = [
     *((name, words, b"", 2, USAGE) for name, more in (("order_image", ["3", "3"]), ("proofread", ["3"]))
       for words in ([], ["2"], ["2", "FOLDER/image", *more])),
     *(("reciprocals", words, b"", 2, USAGE) for words in ([], ["2"])),
+    *(("bench_words", words, b"", 2, USAGE) for words in ([], ["2", "2"])),
     *((name, [k, "FOLDER/new"], b"", 2, "K is not a number") for name in ("order_image", "proofread")
       for k in ("", "two", "-1", "+2", "2.0", " 2", "0x2", "4294967296", b"\xff")),
+    *(("bench_words", [k], b"", 2, "K is not a number") for k in ("", "two", "-1", "+2", " 2", "4294967296", b"\xff")),
     *(("reciprocals", [k, "7", "128"], b"", 2, "K is not a number") for k in ("", "two", "-1", "+2", "4294967296", b"\xff")),
     *(("reciprocals", ["2", n, "128"], b"", 2, "N is not a number") for n in ("", "seven", "-1", "+7", "4294967296", b"\xff")),
     *(("order_image", [k, "FOLDER/new"], b"", 1, RANGE) for k in ("0", "13", "4294967295")),
     *(("proofread", [k, "FOLDER/image"], b"", 1, RANGE) for k in ("0", "13", "4294967295")),
     *(("reciprocals", [k, "7", "128"], b"", 1, RANGE) for k in ("0", "13", "4294967295")),
+    *(("bench_words", [k], b"", 1, RANGE) for k in ("0", "13", "4294967295")),
     *(("order_image", ["2", "FOLDER/new", size], b"", 2, "SIZE is not a number below 2^64")
       for size in ("", "four", "-4", "+4", "4.0", " 4", "0x4", "18446744073709551616", b"\xff")),
     *(("order_image", [k, "FOLDER/new", size], b"", 1, SHORT) for k, size in (("1", "0"), ("2", "0"), ("2", "2"), ("2", "0002"), ("12", "13311"))),
@@ -377,7 +396,8 @@ def output_closed():
         file.write_bytes(reference.image(2))
         worn = pathlib.Path(folder) / "worn"
         worn.write_bytes(reference.image(2) + b"\1")
-        for words in (["order_image", "2", file], ["proofread", "2", file], ["proofread", "2", worn], ["reciprocals", "2", "7", "128"]):
+        for words in (["order_image", "2", file], ["proofread", "2", file], ["proofread", "2", worn], ["reciprocals", "2", "7", "128"],
+                      ["bench_words", "2"]):
             with open("/dev/full", "wb") as full:
                 done = subprocess.run([examples() / words[0], *words[1:]], stdin=subprocess.DEVNULL, stdout=full, stderr=subprocess.PIPE)
             reader, writer = os.pipe()
@@ -409,6 +429,7 @@ def tests():
     yield "rust: proofread names the first wrong word, or the first wrong byte past the image", proofread
     yield "rust: proofread reads files past the longest image whole", proofread_long
     yield "rust: reciprocals are the reference's", reciprocals
+    yield "rust: bench_words has the nodes from the words of each full image", bench_words
     yield f"rust: {len(MISTAKES)} mistakes in calling the examples give a message and an exit status", mistakes
     yield "rust: an example whose output cannot be written says so", output_closed
     yield "rust: the commands of rust/README.md", page_commands
