@@ -12,48 +12,58 @@ from c_build import need
 ROOT = pathlib.Path(__file__).resolve().parent.parent
 BUILT = ROOT / "target" / "cargo"
 
-# The parts of a run, each with the cases that it has at least.
+# The parts of a run, each with the cases that it has at least, in both forms together.
+CUT = sum(2 ** (2 * k + 3) for k in range(1, 13))
+
+
+def short(greatest):
+    """The short operands at the precisions up to one, in one form."""
+    return sum(2 ** n for k in range(1, greatest + 1) for n in range(1, 2 * k + 3))
+
+
 WHOLE = {
-    "every cut operand": sum(2 ** (2 * k + 3) for k in range(1, 13)),
-    "longer operands": 73_000_000,
-    "every short operand": sum(2 ** n for k in range(1, 13) for n in range(1, 2 * k + 3)),
-    "bits to the right of short operands": 20_000_000,
-    "limits of operands": 19_000,
-    "image lengths": 200,
+    "every cut operand": 2 * CUT,
+    "longer operands": 73_000_000 + 9_000_000,
+    "every short operand": short(12) + 20_000_000,
+    "bits to the right of short operands": 20_000_000 + 4_500_000,
+    "limits of operands": 4 * 19_000,
+    "image lengths": 4 * 200,
     "constant nodes": 400,
-    "images built": 13_000,
-    "images read": 1_050_000,
-    "one bit changed": 15_000_000,
-    "two bits changed": 38_000_000,
-    "any content": 4_800_000,
-    "every content of the shortest images": 3 * 2 ** 24,
-    "tails built": 12 * 64 * 81 * 3,
-    "tails with one bit changed": 9 * 64 * 8 * sum(range(81)),
-    "tails with more than one byte changed": 4_200_000,
-    "tails of some MiB": 18_000,
-    "a tail beyond 4 GiB": 13,
-    "refusals": 98_000_000,
-    "upper halves of registers": 24_000,
-    "no bytes": 890_000,
-    "fences": 400_000,
+    "images built": 30_000,
+    "images read": 2 * 1_050_000,
+    "one bit changed": 17_700_000,
+    "two bits changed": 48_000_000,
+    "any content": 5_800_000,
+    "every content of the shortest images": 3 * 2 ** 24 + 4 * 2 ** 24,
+    "tails built": 12 * (64 + 8) * 81 * 3,
+    "tails with one bit changed": (7 * 64 + 5 * 8 + 6 * 8 + 6 * 2) * 8 * sum(range(81)),
+    "tails with more than one byte changed": 4_400_000,
+    "filling bits": 8_200_000,
+    "tails of some MiB": 25_000,
+    "a tail beyond 4 GiB": 17,
+    "refusals": 98_000_000 + 15_000_000,
+    "upper halves of registers": 37_000,
+    "no bytes": 4 * 890_000,
+    "fences": 800_000,
 }
 MEMORY = {
-    "blocks not written to": 120,
-    "images built": 840,
-    "images read": 65_000,
-    "every short operand": sum(2 ** n for k in range(1, 5) for n in range(1, 2 * k + 3)),
-    "bits to the right of short operands": 110_000,
-    "limits of operands": 19_000,
-    "one bit changed": 20_000,
-    "two bits changed": 9_900,
-    "any content": 59_000,
-    "every content of the shortest images": 5_300,
-    "tails built": 400,
-    "tails with one bit changed": 60_000,
-    "tails with more than one byte changed": 12_000,
-    "refusals": 3_500_000,
-    "upper halves of registers": 24_000,
-    "fences": 86_000,
+    "blocks not written to": 240,
+    "images built": 1_900,
+    "images read": 130_000,
+    "every short operand": 2 * short(4),
+    "bits to the right of short operands": 220_000,
+    "limits of operands": 4 * 19_000,
+    "one bit changed": 43_000,
+    "two bits changed": 25_000,
+    "any content": 130_000,
+    "every content of the shortest images": 12_000,
+    "tails built": 880,
+    "tails with one bit changed": 140_000,
+    "tails with more than one byte changed": 26_000,
+    "filling bits": 81_000,
+    "refusals": 2_700_000,
+    "upper halves of registers": 37_000,
+    "fences": 140_000,
 }
 
 

@@ -1,14 +1,15 @@
 //! Images with wrong words: one bit changed, several, and buffers of any content.
 use crate::both::{told, Both};
-use crate::independent::{power, precisions, table, width, Judged, MOST_FRACTION_BITS};
+use crate::independent::{both_forms, bytes_of, formats, power, precisions, table, width, Judged, MOST_FRACTION_BITS};
 use crate::lent::{Buffer, Guards};
+use crate::library::Format;
 use crate::random::Random;
 use crate::short::longer;
 use crate::work::{share, Counted};
 
 /// A buffer that starts as a right image, and how its words are judged.
 struct Damaged {
-    k: u32,
+    format: Format,
     buffer: Buffer,
     judged: Judged,
     random: Random,
@@ -16,12 +17,12 @@ struct Damaged {
 }
 
 impl Damaged {
-    fn new(guards: Guards, k: u32, seed: u64) -> Damaged {
+    fn new(guards: Guards, format: Format, seed: u64) -> Damaged {
         let mut random = Random::new(seed);
-        let image = &table(k).image;
+        let image = &table(format).image;
         let content = [&image[..], &random.bytes(seed as usize % 3)].concat();
         let buffer = Buffer::new(guards, random.below(16) as usize, &content);
-        Damaged { k, buffer, judged: Judged::new(k, &content, content.len()), random, cases: 0 }
+        Damaged { format, buffer, judged: Judged::new(format, &content, content.len()), random, cases: 0 }
     }
 
     /// Changes one bit.
@@ -33,21 +34,21 @@ impl Damaged {
     /// Gives the front another content.
     fn put(&mut self, content: &[u8]) {
         self.buffer.put(content);
-        self.judged = Judged::new(self.k, self.buffer.bytes(), self.buffer.bytes().len());
+        self.judged = Judged::new(self.format, self.buffer.bytes(), self.buffer.bytes().len());
     }
 
     /// Compares the check, and nodes and operands at the given words, those beside them, and elsewhere.
     fn compare(&mut self, words: &[usize], whole: bool) -> Result<(), String> {
-        let k = self.k;
-        let count = power(k) as u32;
+        let k = self.format.precision;
+        let last = power(k) as u32;
         let lent = self.buffer.lent();
         let mut both = Both::new(lent, &self.judged, self.buffer.bytes());
         both.check()?;
         let mut near: Vec<u32> = if whole {
-            (0..=count + 1).collect()
+            (0..=last + 1).collect()
         } else {
             let beside = words.iter().flat_map(|j| (*j as u32).saturating_sub(2)..=*j as u32 + 2);
-            let elsewhere = [0, count - 1, count, self.random.below(u64::from(count)) as u32];
+            let elsewhere = [0, last - 1, last, self.random.below(u64::from(last)) as u32];
             beside.chain(elsewhere).collect()
         };
         near.sort_unstable();
@@ -55,10 +56,10 @@ impl Damaged {
         for j in near {
             both.node(j)?;
             both.word_bytes(j)?;
-            if j >= count {
+            if j >= last {
                 continue;
             }
-            let (left, steps) = ((u64::from(count) + u64::from(j)) << (k + 3), 1u64 << (k + 3));
+            let (left, steps) = ((u64::from(last) + u64::from(j)) << (k + 3), 1u64 << (k + 3));
             let most = u64::from(MOST_FRACTION_BITS - (2 * k + 3));
             let right = self.random.below(most + 1) as u32;
             let (n, ones) = (2 * k + 3 + right, (1 << right) - 1);
@@ -72,58 +73,59 @@ impl Damaged {
             // A short operand in the piece, from the fewest fraction bits with which one stands at node j; the same with bits to its right.
             let fewest = (k - k.min(j.trailing_zeros())).max(1);
             let n = fewest + self.random.below(u64::from(2 * k + 3 - fewest)) as u32;
-            let x = (u64::from(count + j) << n >> k) + self.random.below(1 << n.saturating_sub(k));
+            let x = (u64::from(last + j) << n >> k) + self.random.below(1 << n.saturating_sub(k));
             let (longer_n, longer_x) = longer(&mut self.random, k, n, x);
             both.alike(n, x, longer_n, longer_x)?;
         }
         self.cases += both.cases;
-        self.buffer.as_kept(|| format!("the calls but build, k {k}, on {}", told(k, self.buffer.bytes())))
+        self.buffer.as_kept(|| format!("the calls but build, {}, on {}", self.format, told(self.format, self.buffer.bytes())))
     }
 }
 
 /// Some bits of one image, the `step`-th ones from one up to another.
 struct Bits {
-    k: u32,
+    format: Format,
     from: usize,
     to: usize,
     step: usize,
 }
 
-/// One bit changed: at each precision the `step(k)`-th bits of the image.
-pub fn one_bit(guards: Guards, step: impl Fn(u32) -> usize) -> Counted {
+/// One bit changed: in each format the `step`-th bits of the image, filling bits too.
+pub fn one_bit(guards: Guards, step: impl Fn(Format) -> usize) -> Counted {
     let mut works = Vec::new();
-    for k in precisions().rev() {
-        let bits = table(k).bits.len();
-        works.extend((0..bits).step_by(1024).map(|from| Bits { k, from, to: bits.min(from + 1024), step: step(k) }));
+    for format in formats().rev() {
+        let bits = 8 * table(format).image.len();
+        works.extend((0..bits).step_by(1024).map(|from| Bits { format, from, to: bits.min(from + 1024), step: step(format) }));
     }
     share(&works, |work| {
-        let mut damaged = Damaged::new(guards, work.k, work.from as u64);
+        let mut damaged = Damaged::new(guards, work.format, work.from as u64);
         for bit in (work.from..work.to).step_by(work.step) {
             damaged.flip(bit);
-            damaged.compare(&[bit / width(work.k)], work.k <= 6 && work.step == 1)?;
+            damaged.compare(&[bit / width(work.format)], work.format.precision <= 6 && work.step == 1)?;
             damaged.flip(bit);
         }
         Ok(damaged.cases)
     })
 }
 
-/// Two bits changed: every two of the shortest images, then random ones, of which some lie in one word or in neighbours.
-pub fn two_bits(guards: Guards, every_up_to: u32, random: usize) -> Counted {
+/// Two bits changed: every two of the shortest images, then as many random ones, of which some lie in one word or in neighbours.
+pub fn two_bits(guards: Guards, every_up_to: u32, random: impl Fn(Format) -> usize) -> Counted {
     let mut works = Vec::new();
-    for k in precisions().rev() {
-        if k <= every_up_to {
-            works.push((k, 0, 0));
+    for format in formats().rev() {
+        if format.precision <= every_up_to {
+            works.push((format, 0, 0));
         } else {
-            works.extend((0..random).step_by(1000).map(|from| (k, from, random.min(from + 1000))));
+            let many = random(format);
+            works.extend((0..many).step_by(1000).map(|from| (format, from, many.min(from + 1000))));
         }
     }
-    share(&works, |&(k, from, to)| {
-        let bits = table(k).bits.len();
-        let mut damaged = Damaged::new(guards, k, 7 + from as u64);
+    share(&works, |&(format, from, to)| {
+        let (bits, width) = (8 * table(format).image.len(), width(format));
+        let mut damaged = Damaged::new(guards, format, 7 + from as u64);
         let both_changed = |damaged: &mut Damaged, one: usize, other: usize| {
             damaged.flip(one);
             damaged.flip(other);
-            damaged.compare(&[one / width(k), other / width(k)], k <= 3)?;
+            damaged.compare(&[one / width, other / width], format.precision <= 3)?;
             damaged.flip(one);
             damaged.flip(other);
             Ok::<(), String>(())
@@ -135,7 +137,7 @@ pub fn two_bits(guards: Guards, every_up_to: u32, random: usize) -> Counted {
         }
         for at in from..to {
             let one = damaged.random.below(bits as u64) as usize;
-            let reach = [width(k), 3 * width(k), bits][at % 3].min(bits);
+            let reach = [width, 3 * width, bits][at % 3].min(bits);
             let other = (one + 1 + damaged.random.below(reach as u64 - 1) as usize) % bits;
             both_changed(&mut damaged, one, other)?;
         }
@@ -144,12 +146,13 @@ pub fn two_bits(guards: Guards, every_up_to: u32, random: usize) -> Counted {
 }
 
 /// Contents that a wrong construction leaves, and random ones.
-pub fn any_content(guards: Guards, random: usize) -> Counted {
-    let works: Vec<u32> = precisions().rev().collect();
-    share(&works, |&k| {
-        let image = &table(k).image;
+pub fn any_content(guards: Guards, random: impl Fn(Format) -> usize + Sync) -> Counted {
+    let works: Vec<Format> = formats().rev().collect();
+    share(&works, |&format| {
+        let k = format.precision;
+        let image = &table(format).image;
         let length = image.len();
-        let mut damaged = Damaged::new(guards, k, 31);
+        let mut damaged = Damaged::new(guards, format, 31);
         let beyond = |j: usize, c: u64| u128::from(c) * (power(k) + j as u128) - power(3 * k + 3); // what rounding up adds to c × i
         let mut contents: Vec<Vec<u8>> = vec![
             vec![0; length],
@@ -158,14 +161,17 @@ pub fn any_content(guards: Guards, random: usize) -> Counted {
             image.iter().rev().copied().collect(),
             [&image[1..], &image[..1]].concat(),
             [&image[length - 1..], &image[..length - 1]].concat(),
-            packed(k, |j, c| c - u64::from(beyond(j, c) > 0)), // rounded down
-            packed(k, |j, c| c - u64::from(2 * beyond(j, c) > power(k) + j as u128)), // rounded to nearest
-            packed(k, |_, c| c + 1),
-            packed(k, |j, c| if j == 0 { 1 << (2 * k + 1) } else { c }),
-            packed(k, |_, c| c / 2), // with the leading one that is left out
+            packed(format, |j, c| c - u64::from(beyond(j, c) > 0)), // rounded down
+            packed(format, |j, c| c - u64::from(2 * beyond(j, c) > power(k) + j as u128)), // rounded to nearest
+            packed(format, |_, c| c + 1),
+            packed(format, |j, c| if j == 0 { 1 << (2 * k + 1) } else { c }),
+            packed(format, |_, c| c / 2),                  // plain, with the leading one that is left out
+            packed(format, |_, c| c % (1 << (2 * k + 2))), // full, with the leading one left out
+            packed(format, |j, c| if j == 1 << k { 0 } else { c }), // full, with the last node left out
         ];
-        contents.extend(precisions().map(|other| table(other).image.iter().cycle().take(length).copied().collect()));
-        for _ in 0..random {
+        let others = precisions().map(|precision| Format { precision, ..format }).chain([Format { precision: k, form: 1 - format.form }]);
+        contents.extend(others.map(|other| table(other).image.iter().cycle().take(length).copied().collect()));
+        for _ in 0..random(format) {
             // Right up to some byte, and random from there on up to another.
             let from = damaged.random.below(length as u64) as usize;
             let to = from + 1 + damaged.random.below((length - from) as u64) as usize;
@@ -182,26 +188,30 @@ pub fn any_content(guards: Guards, random: usize) -> Counted {
 }
 
 /// An image of other values than the nodes', each cut to a word.
-fn packed(k: u32, value: impl Fn(usize, u64) -> u64) -> Vec<u8> {
-    let nodes = &table(k).nodes[..1 << k];
-    let bits: Vec<bool> = (nodes.iter().enumerate())
+fn packed(format: Format, value: impl Fn(usize, u64) -> u64) -> Vec<u8> {
+    let table = table(format);
+    let stored = &table.nodes[..table.bits.len() / width(format)];
+    let bits: Vec<bool> = (stored.iter().enumerate())
         .flat_map(|(j, c)| {
             let value = value(j, *c);
-            (0..width(k)).rev().map(move |at| value / (1 << at) % 2 == 1)
+            (0..width(format)).rev().map(move |at| value / (1 << at) % 2 == 1)
         })
         .collect();
-    bits.chunks(8).map(|byte| byte.iter().fold(0, |sum, bit| 2 * sum + u8::from(*bit))).collect()
+    bytes_of(&bits)
 }
 
-/// Every content of the images of one byte and of three: the check, and of the rest one node and one operand in turn, with 1 to 7 fraction
-/// bits.
+/// Every content of the images of one byte and of three, of which one is full: the check, and of the rest one node and one operand in turn; of
+/// the full image every node, and an operand now and then.
 pub fn every_content(guards: Guards, step: usize) -> Counted {
-    let mut works: Vec<(u32, u32, u32)> = vec![(1, 0, 256)];
-    works.extend((0..1 << 24).step_by(1 << 16).map(|from| (2, from, from + (1 << 16))));
-    share(&works, |&(k, from, to)| {
-        let mut damaged = Damaged::new(guards, k, 0);
+    let [one, full] = both_forms(1);
+    let mut works: Vec<(Format, u32, u32)> = vec![(one, 0, 256)];
+    for format in [Format::plain(2), full] {
+        works.extend((0..1 << 24).step_by(1 << 16).map(|from| (format, from, from + (1 << 16))));
+    }
+    share(&works, |&(format, from, to)| {
+        let mut damaged = Damaged::new(guards, format, 0);
         for content in (from..to).step_by(step) {
-            if k == 1 {
+            if format == one {
                 damaged.put(&[content as u8]);
                 damaged.compare(&[], true)?;
                 continue;
@@ -210,12 +220,20 @@ pub fn every_content(guards: Guards, step: usize) -> Counted {
             let lent = damaged.buffer.lent();
             let mut both = Both::new(lent, &damaged.judged, damaged.buffer.bytes());
             both.check()?;
-            both.node(content / 8 % 5)?;
-            let (x, lacking) = (128 + u64::from(content / 4 % 128), content / 512 % 7);
-            both.reciprocal(7 - lacking, x >> lacking)?;
+            if format == full {
+                (0..3).try_for_each(|j| both.node(j))?;
+            } else {
+                both.node(content / 8 % 5)?;
+            }
+            if format != full || content % 7 == 0 {
+                // It is drawn by the content, and has from one fraction bit to as many as are looked at.
+                let kept = 2 * format.precision + 3;
+                let lacking = content / 512 % kept;
+                both.reciprocal(kept - lacking, ((1 << kept) + u64::from(content / 4 % (1 << kept))) >> lacking)?;
+            }
             damaged.cases += both.cases;
         }
-        damaged.buffer.as_kept(|| format!("check, node and reciprocal, k {k}, on the contents {from:06x} to {:06x}", to - 1))?;
+        damaged.buffer.as_kept(|| format!("check, node and reciprocal, {format}, on the contents {from:06x} to {:06x}", to - 1))?;
         Ok(damaged.cases)
     })
 }

@@ -2,9 +2,9 @@
 //! calls but the builder's are made where nothing can be written either. For the builder and the check the pages stand behind the buffer,
 //! for the others also behind the image, where the buffer is said to be longer.
 use crate::both::{called, Both};
-use crate::independent::{power, precisions, rom, table, Judged, MOST_FRACTION_BITS};
-use crate::library::Lent;
-use crate::work::Counted;
+use crate::independent::{formats, length, power, rom, table, Judged, GREATEST, MOST_FRACTION_BITS};
+use crate::library::{Format, Lent};
+use crate::work::{share, Counted};
 use std::ffi::c_char;
 use std::fmt::Write;
 use std::{ptr, slice};
@@ -122,16 +122,17 @@ pub fn watch() {
     }
 }
 
-/// The calls that look at nothing past the image: each `step`-th node, its word, and operands at both ends of its piece, short ones too.
-fn calls(both: &mut Both, step: usize) -> Result<(), String> {
-    let k = both.judged.k;
-    let words = power(k.min(12)) as u32;
-    for j in (0..words).step_by(step).chain(words - 1..words + 2).chain([u32::MAX]) {
+/// The calls that look at nothing behind the words: each `step`-th node and those about the last one, its word, and operands at both ends of
+/// its piece, short ones too.
+pub fn calls(both: &mut Both, step: usize) -> Result<(), String> {
+    let k = both.judged.format.precision;
+    let last = power(k.min(12)) as u32;
+    for j in (0..last).step_by(step).chain(last - 1..last + 2).chain([u32::MAX]) {
         both.node(j)?;
         both.word_bytes(j)?;
         for n in [k.min(12) + 1, 2 * k.min(12) + 2, 2 * k.min(12) + 3, MOST_FRACTION_BITS] {
             let piece = 1u64 << (n - k.min(12));
-            let node = u128::from(words + j.min(words)) * u128::from(piece);
+            let node = u128::from(last + j.min(last)) * u128::from(piece);
             for x in [node, node + u128::from(piece) - 1] {
                 both.reciprocal(n, x as u64)?;
             }
@@ -141,67 +142,72 @@ fn calls(both: &mut Both, step: usize) -> Result<(), String> {
 }
 
 /// Images in buffers of their own length, in longer and in shorter ones, and buffers that are said to be longer than they are.
-pub fn fenced(step: impl Fn(u32) -> usize) -> Counted {
-    let fenced = Fenced::new();
-    let mut cases = 0;
-    for k in precisions() {
+pub fn fenced(step: impl Fn(u32) -> usize + Sync) -> Counted {
+    let works: Vec<Format> = formats().rev().collect();
+    share(&works, |&format| {
+        let (fenced, step) = (Fenced::new(), step(format.precision));
+        let mut cases = said_longer(&fenced, format, step)?;
         for side in [Side::First, Side::Last] {
-            cases += images(&fenced, k, side, step(k))? + tails(&fenced, k, side, step(k))? + turned_back(&fenced, k, side, step(k))?;
+            cases += images(&fenced, format, side, step)? + tails(&fenced, format, side, step)?;
+            cases += turned_back(&fenced, format, side, step)?;
         }
-        cases += said_longer(&fenced, k, step(k))?;
-    }
-    Ok(cases)
+        Ok(cases)
+    })
 }
 
-fn images(fenced: &Fenced, k: u32, side: Side, step: usize) -> Counted {
-    let image = &table(k).image;
+fn images(fenced: &Fenced, format: Format, side: Side, step: usize) -> Counted {
+    let image = &table(format).image;
     let mut cases = 0;
     for byte in [0x00, 0xFF] {
         let content = vec![byte; image.len()];
-        let judged = Judged::new(k, &content, content.len());
+        let judged = Judged::new(format, &content, content.len());
         let lent = fenced.put(side, &content);
         let mut both = Both::new(lent, &judged, &content);
         both.check()?;
         calls(&mut both, 61 * step)?;
         cases += both.cases;
     }
-    let judged = Judged::new(k, image, image.len());
+    let judged = Judged::new(format, image, image.len());
     let mut both = Both::new(fenced.put(side, image), &judged, image);
     both.check()?;
     calls(&mut both, step)?;
     Ok(cases + both.cases)
 }
 
-/// Images built and checked in buffers with tails of many lengths, each `step`-th, at the fence: over zeros and ones; the full ROM; and with each byte of
-/// the tail, or some of them, not zero.
-fn tails(fenced: &Fenced, k: u32, side: Side, step: usize) -> Counted {
-    let image = &table(k).image;
+/// Images built and checked in buffers with tails of many lengths, each `step`-th, in the full form each third of these, at the fence: over
+/// zeros and ones; the full ROM; and with a filling bit set, or each byte of the tail, or some of them, not zero.
+fn tails(fenced: &Fenced, format: Format, side: Side, step: usize) -> Counted {
+    let image = &table(format).image;
+    let most = ROOM - length(Format { precision: GREATEST, ..format });
+    let step = step * if format.form == 0 { 1 } else { 3 };
     let mut cases = 0;
-    for more in (0..=80).chain([127, 128, 129, 191, 192, 255, 256, 1000, ROOM - 13312]).step_by(step) {
+    for more in (0..=80).chain([127, 128, 129, 191, 192, 255, 256, 1000, most]).step_by(step) {
         let length = image.len() + more;
-        let full = rom(k, length);
+        let full = rom(format, length);
         for byte in [0x00, 0xFF] {
             let content = vec![byte; length];
-            let judged = Judged::new(k, &content, length);
+            let judged = Judged::new(format, &content, length);
             let mut both = Both::new(fenced.put(side, &content), &judged, &content);
             both.check()?;
             fenced.allow(READ_AND_WRITE);
             both.build()?;
             if !fenced.holds(side, &full) {
                 return Err(format!(
-                    "build, k {k}, {side:?} byte at a fence, length {length}, over bytes {byte:#x}: what is in the buffer is not its image and zeros, or more was written"
+                    "build, {format}, {side:?} byte at a fence, length {length}, over bytes {byte:#x}: what is in the buffer is not its image and zeros, or more was written"
                 ));
             }
             cases += both.cases;
         }
-        let sound = Judged::new(k, &full, length);
+        let sound = Judged::new(format, &full, length);
         let mut both = Both::new(fenced.put(side, &full), &sound, &full);
         both.check()?;
         cases += both.cases;
-        for at in (0..more).step_by(1 + more / 16).chain(more.checked_sub(1)) {
+        let filling = table(format).bits.len()..8 * image.len();
+        let tail = (0..more).step_by(1 + more / 16).chain(more.checked_sub(1)).map(|at| 8 * (image.len() + at) + 7 - at % 8);
+        for bit in filling.chain(tail) {
             let mut content = full.clone();
-            content[image.len() + at] = 1 << (at % 8);
-            let judged = Judged::new(k, &content, length);
+            content[bit / 8] |= 128 >> (bit % 8);
+            let judged = Judged::new(format, &content, length);
             let mut both = Both::new(fenced.put(side, &content), &judged, &content);
             both.check()?;
             cases += both.cases;
@@ -211,13 +217,13 @@ fn tails(fenced: &Fenced, k: u32, side: Side, step: usize) -> Counted {
 }
 
 /// Buffers that are too short, and those of numbers that are no precision. Here the builder may not write.
-fn turned_back(fenced: &Fenced, k: u32, side: Side, step: usize) -> Counted {
-    let image = &table(k).image;
+fn turned_back(fenced: &Fenced, format: Format, side: Side, step: usize) -> Counted {
+    let image = &table(format).image;
     let mut cases = 0;
     let asked = [0, 1, 2, 7, 8, image.len() / 2, image.len().saturating_sub(8), image.len().saturating_sub(2), image.len() - 1];
     for length in asked.into_iter().filter(|length| *length < image.len()) {
-        for k in [k, 12, 0, 13, u32::MAX] {
-            let judged = Judged::new(k, &image[..length], length);
+        for precision in [format.precision, 12, 0, 13, u32::MAX] {
+            let judged = Judged::new(Format { precision, ..format }, &image[..length], length);
             let mut both = Both::new(fenced.put(side, &image[..length]), &judged, &image[..length]);
             both.check()?;
             calls(&mut both, 509 * step)?;
@@ -230,11 +236,11 @@ fn turned_back(fenced: &Fenced, k: u32, side: Side, step: usize) -> Counted {
 
 /// Buffers of an image's length that are said to be longer: what follows the image cannot be touched, and the calls that look at nothing
 /// there serve them.
-fn said_longer(fenced: &Fenced, k: u32, step: usize) -> Counted {
-    let image = &table(k).image;
+fn said_longer(fenced: &Fenced, format: Format, step: usize) -> Counted {
+    let image = &table(format).image;
     let mut cases = 0;
     for length in [image.len() + 1, image.len() + 8, image.len() + PAGE, u32::MAX as usize, 1 << 32, 1 << 47, usize::MAX / 2, usize::MAX] {
-        let judged = Judged::new(k, image, length);
+        let judged = Judged::new(format, image, length);
         let lent = Lent { length, ..fenced.put(Side::Last, image) };
         let mut both = Both::new(lent, &judged, image);
         calls(&mut both, 7 * step)?;
@@ -248,11 +254,18 @@ const LENGTH: usize = (1 << 32) + ROOM;
 
 /// Such buffers built and checked.
 pub fn beyond_32_bits() -> Counted {
-    Ok(built_beyond(2)? + checked_beyond()?)
+    let works = [
+        (Format::plain(2), true),
+        (Format::full(1), true),
+        (Format::plain(2), false),
+        (Format::plain(12), false),
+        (Format::full(12), false),
+    ];
+    share(&works, |&(format, built)| if built { built_beyond(format) } else { checked_beyond(format) })
 }
 
 /// An image built in such a buffer. Its middle is one block of memory that stands there again and again, so that no 4 GiB are needed.
-fn built_beyond(k: u32) -> Counted {
+fn built_beyond(format: Format) -> Counted {
     const BLOCK: usize = 1 << 24;
     unsafe {
         let start = mmap(ptr::null_mut(), LENGTH + PAGE, NOTHING, PRIVATE_AND_ANONYMOUS | NOT_RESERVED, -1, 0);
@@ -267,12 +280,12 @@ fn built_beyond(k: u32) -> Counted {
             start.add(at).write_bytes(REST, length);
         }
         start.add(BLOCK).write_bytes(REST, BLOCK);
-        let judged = Judged::new(k, &[], LENGTH);
+        let judged = Judged::new(format, &[], LENGTH);
         let mut both = Both::new(Lent { start, length: LENGTH }, &judged, &[]);
         both.build()?;
-        let parts = [(0, rom(k, BLOCK)), (BLOCK, vec![0; BLOCK]), (1 << 32, vec![0; ROOM])];
+        let parts = [(0, rom(format, BLOCK)), (BLOCK, vec![0; BLOCK]), (1 << 32, vec![0; ROOM])];
         if let Some((at, _)) = parts.iter().find(|(at, content)| slice::from_raw_parts(start.add(*at), content.len()) != content) {
-            return Err(format!("build, k {k}, length {LENGTH}: from byte {at} on is not the image and zeros"));
+            return Err(format!("build, {format}, length {LENGTH}: from byte {at} on is not the image and zeros"));
         }
         assert_eq!(munmap(start, LENGTH + PAGE), 0);
         assert_eq!(close(file), 0);
@@ -280,31 +293,34 @@ fn built_beyond(k: u32) -> Counted {
     }
 }
 
-/// A full ROM, of which most pages are never written: it passes the check, and a byte that is not zero is named wherever it stands.
-fn checked_beyond() -> Counted {
+/// A full ROM, of which most pages are never written: it passes the check, and a byte that is not zero is named wherever it stands, that of
+/// the filling bits too.
+fn checked_beyond(format: Format) -> Counted {
     let mut cases = 0;
     unsafe {
         let start = mmap(ptr::null_mut(), LENGTH + PAGE, NOTHING, PRIVATE_AND_ANONYMOUS | NOT_RESERVED, -1, 0);
         assert_ne!(start as isize, -1, "no pages to be had");
         assert_eq!(mprotect(start, LENGTH, READ_AND_WRITE), 0);
         let lent = Lent { start, length: LENGTH };
-        for k in [2, 12] {
-            let image = &table(k).image;
-            start.copy_from_nonoverlapping(image.as_ptr(), image.len());
-            for at in [None, Some(LENGTH - 1), Some((1 << 32) + image.len()), Some(1 << 32), Some((1 << 32) - 1), Some(image.len())] {
-                let mut judged = Judged::new(k, image, LENGTH);
-                if let Some(at) = at {
-                    *start.add(at) = 0x20;
-                    judged.stray_at(at);
-                }
-                let mut both = Both::new(lent, &judged, image);
-                both.check()?;
-                cases += both.cases;
-                if let Some(at) = at {
-                    *start.add(at) = 0;
-                }
+        let (bits, image) = (table(format).bits.len(), &table(format).image);
+        start.copy_from_nonoverlapping(image.as_ptr(), image.len());
+        // Where there are filling bits, their byte and the last one are enough.
+        let places = match bits % 8 {
+            0 => vec![LENGTH - 1, (1 << 32) + image.len(), 1 << 32, (1 << 32) - 1, image.len()],
+            _ => vec![LENGTH - 1, image.len() - 1],
+        };
+        for at in [None].into_iter().chain(places.into_iter().map(Some)) {
+            let mut judged = Judged::new(format, image, LENGTH);
+            if let Some(at) = at {
+                *start.add(at) |= 1; // the last bit of the image is a filling bit, where it has one
+                judged.stray_at(at);
             }
-            start.write_bytes(0, image.len());
+            let mut both = Both::new(lent, &judged, image);
+            both.check()?;
+            cases += both.cases;
+            if let Some(at) = at {
+                *start.add(at) &= !1;
+            }
         }
         assert_eq!(munmap(start, LENGTH + PAGE), 0);
     }

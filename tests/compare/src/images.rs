@@ -1,17 +1,19 @@
 //! Right images: built, checked, and every node and word read. The nodes that need no image.
 use crate::both::Both;
-use crate::independent::{constant_node, is_precision, power, precisions, rom, table, Judged, GREATEST, LEAST, LENGTHS};
+use crate::independent::{constant_node, formats, is_precision, length, power, rom, table, Judged, FORMS, GREATEST, LEAST};
 use crate::lent::{Buffer, Guards};
-use crate::library::{self, TableUnits};
+use crate::library::{self, Format, TableUnits};
 use crate::random::Random;
 use crate::work::{share, Counted};
 
 /// What stands in a buffer before an image is built there, by its name.
-fn contents(k: u32, length: usize) -> Vec<(&'static str, Vec<u8>)> {
-    let image = &table(k).image;
+fn contents(format: Format, length: usize) -> Vec<(&'static str, Vec<u8>)> {
+    let Format { precision: k, form } = format;
+    let image = &table(format).image;
     let rest = vec![0x5A; length - image.len()];
     let complement: Vec<u8> = image.iter().map(|byte| !byte).collect();
-    let other = &table(if k == GREATEST { LEAST } else { k + 1 }).image;
+    let other = &table(Format { precision: if k == GREATEST { LEAST } else { k + 1 }, form }).image;
+    let other_form = &table(Format { precision: k, form: 1 - form }).image;
     vec![
         ("zeros", vec![0; length]),
         ("ones", vec![0xFF; length]),
@@ -20,23 +22,24 @@ fn contents(k: u32, length: usize) -> Vec<(&'static str, Vec<u8>)> {
         ("the image", [&image[..], &rest].concat()),
         ("its complement", [&complement[..], &rest].concat()),
         ("another image", other.iter().cycle().take(length).copied().collect()),
+        ("the image in the other form", other_form.iter().cycle().take(length).copied().collect()),
     ]
 }
 
 /// Every image, built in buffers of its own length and longer ones, with zeros to their ends, over what stood there.
 pub fn built(guards: Guards, shifts: &[usize]) -> Counted {
-    let works: Vec<(u32, usize)> = precisions().flat_map(|k| shifts.iter().map(move |shift| (k, *shift))).collect();
-    share(&works, |&(k, shift)| {
-        let image = &table(k).image;
+    let works: Vec<(Format, usize)> = formats().flat_map(|format| shifts.iter().map(move |shift| (format, *shift))).collect();
+    share(&works, |&(format, shift)| {
+        let image = &table(format).image;
         let mut cases = 0;
-        for more in [0, 1, 2, 3, 7, 8, 9, 16, 255, 13312] {
+        for more in [0, 1, 2, 3, 7, 8, 9, 16, 255, 14340] {
             let length = image.len() + more;
-            for (name, content) in contents(k, length) {
+            for (name, content) in contents(format, length) {
                 let mut buffer = Buffer::new(guards, shift, &content);
-                let judged = Judged::new(k, &content, length);
+                let judged = Judged::new(format, &content, length);
                 Both::new(buffer.lent(), &judged, &content).build()?;
-                buffer.awaits(&rom(k, length));
-                buffer.as_kept(|| format!("build, k {k}, length {length}, over {name}, {shift} bytes after a multiple of 64"))?;
+                buffer.awaits(&rom(format, length));
+                buffer.as_kept(|| format!("build, {format}, length {length}, over {name}, {shift} bytes after a multiple of 64"))?;
                 cases += 1;
             }
         }
@@ -47,40 +50,43 @@ pub fn built(guards: Guards, shifts: &[usize]) -> Counted {
 /// Every image checked, every node and the two after the last one read, every word shown, at each shift and with bytes after it, zeros and
 /// others.
 pub fn read(guards: Guards, shifts: &[usize]) -> Counted {
-    let works: Vec<(u32, usize)> = precisions().flat_map(|k| shifts.iter().map(move |shift| (k, *shift))).collect();
-    share(&works, |&(k, shift)| {
-        let image = &table(k).image;
+    let works: Vec<(Format, usize)> = formats().flat_map(|format| shifts.iter().map(move |shift| (format, *shift))).collect();
+    share(&works, |&(format, shift)| {
+        let image = &table(format).image;
         let mut cases = 0;
         for (more, byte) in [(0, 0), (1, 0xA5), (17, 0), (17, 0xA5)] {
             let content = [&image[..], &vec![byte; more]].concat();
             let mut buffer = Buffer::new(guards, shift, &content);
-            let judged = Judged::new(k, &content, content.len());
+            let judged = Judged::new(format, &content, content.len());
             let mut both = Both::new(buffer.lent(), &judged, &content);
             both.check()?;
-            for j in 0..power(k) as u32 + 3 {
+            for j in 0..power(format.precision) as u32 + 3 {
                 both.node(j)?;
                 both.word_bytes(j)?;
             }
             cases += both.cases;
             buffer.as_kept(|| {
-                format!("check, node and word bytes, k {k}, its image and {more} bytes {byte:#x}, {shift} bytes after a multiple of 64")
+                format!("check, node and word bytes, {format}, its image and {more} bytes {byte:#x}, {shift} bytes after a multiple of 64")
             })?;
         }
         Ok(cases)
     })
 }
 
-/// The image length of each precision, and of numbers that are none.
+/// The image length of each format, and where the precision is none.
 pub fn lengths() -> Counted {
     let others = (0..32).flat_map(|at| [1u32 << at, (1 << at) - 1, (1 << at) + 1, u32::MAX - (1 << at), (1 << at) | 5]);
     let mut cases = 0;
     for k in (0..70).chain(others).chain([u32::MAX]) {
-        let expected = if is_precision(k) { LENGTHS[k as usize - 1] } else { 0 };
-        let found = library::image_length(k);
-        if found != expected {
-            return Err(format!("image length, k {k}: the library gives {found}, expected is {expected}"));
+        for form in FORMS {
+            let format = Format { precision: k, form };
+            let expected = if is_precision(k) { length(format) } else { 0 };
+            let found = library::image_length(format);
+            if found != expected {
+                return Err(format!("image length, {format}: the library gives {found}, expected is {expected}"));
+            }
+            cases += 1;
         }
-        cases += 1;
     }
     Ok(cases)
 }

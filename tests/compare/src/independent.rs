@@ -1,15 +1,18 @@
 //! The independent implementation. It shares no code with the library and works by another method, from the words of the scope:
-//! nodes are searched for, images are lists of single bits, a tail is the set of its bytes that are not zero, R is a point on the line
-//! between two nodes, refusals are a list of tests in their order.
-use crate::library::{Answer, Part};
+//! nodes are searched for, images are lists of single bits, what stands behind the words is the set of its bytes that are not zero, R is a
+//! point on the line between two nodes, refusals are a list of tests in their order.
+use crate::library::{Answer, Format, Part};
 use std::collections::BTreeSet;
 use std::ops::{Range, RangeInclusive};
 use std::sync::OnceLock;
 
 pub const LEAST: u32 = 1;
 pub const GREATEST: u32 = 12;
-/// The image lengths, as they are listed in the scope.
-pub const LENGTHS: [usize; 12] = [1, 3, 8, 20, 48, 112, 256, 576, 1280, 2816, 6144, 13312];
+/// The lengths of the plain images, as they are listed in the scope, and those of the full ones.
+const LENGTHS: [[usize; 12]; 2] =
+    [[1, 3, 8, 20, 48, 112, 256, 576, 1280, 2816, 6144, 13312], [3, 5, 12, 26, 58, 130, 291, 643, 1411, 3075, 6660, 14340]];
+/// Numbers that C may hand over for a form: that of the plain one, and some of those of the full one.
+pub const FORMS: [u32; 4] = [0, 1, 2, u32::MAX];
 pub const LEAST_FRACTION_BITS: u32 = 1;
 pub const MOST_FRACTION_BITS: u32 = 63;
 
@@ -26,9 +29,34 @@ pub fn power(exponent: u32) -> u128 {
     1 << exponent.min(90)
 }
 
-/// The bits of a word.
-pub fn width(k: u32) -> usize {
-    2 * k as usize + 2
+/// A precision in both forms.
+pub fn both_forms(k: u32) -> [Format; 2] {
+    [Format::plain(k), Format::full(k)]
+}
+
+/// Every precision in both forms.
+pub fn formats() -> impl DoubleEndedIterator<Item = Format> {
+    precisions().flat_map(both_forms)
+}
+
+/// 0 for the plain form, 1 for the full one.
+fn form(format: Format) -> usize {
+    usize::from(format.form != 0)
+}
+
+/// The bytes of an image.
+pub fn length(format: Format) -> usize {
+    LENGTHS[form(format)][(format.precision - LEAST) as usize]
+}
+
+/// The bits of a word: those of c(0), of which the plain one leaves the two above 2^(2k+2) out.
+pub fn width(format: Format) -> usize {
+    2 * format.precision as usize + [2, 4][form(format)]
+}
+
+/// The words of an image: one for each node, the last one left out in the plain form.
+pub fn words(format: Format) -> u128 {
+    power(format.precision) + form(format) as u128
 }
 
 /// c(j): the least whole number whose product with i = 2^k + j reaches 2^(3k+3).
@@ -46,7 +74,7 @@ fn node(k: u32, j: u32) -> u64 {
     reaches as u64
 }
 
-/// The nodes of a precision, and its image as bits and as bytes.
+/// The nodes of a precision, the bits of the words of its image, and the image.
 pub struct Table {
     pub nodes: Vec<u64>,
     pub bits: Vec<bool>,
@@ -54,27 +82,38 @@ pub struct Table {
 }
 
 impl Table {
-    fn new(k: u32) -> Table {
-        let last = power(k) as u32;
-        let nodes: Vec<u64> = (0..=last).map(|j| node(k, j)).collect();
-        let stored = &nodes[..nodes.len() - 1];
-        let bits: Vec<bool> = stored.iter().flat_map(|c| (0..width(k)).rev().map(move |at| c / (1 << at) % 2 == 1)).collect();
-        let image: Vec<u8> = bits.chunks(8).map(|byte| byte.iter().fold(0, |sum, bit| 2 * sum + u8::from(*bit))).collect();
-        assert_eq!(image.len(), LENGTHS[k as usize - 1]);
+    fn new(format: Format) -> Table {
+        let last = power(format.precision) as u32;
+        let nodes: Vec<u64> = (0..=last).map(|j| node(format.precision, j)).collect();
+        let stored = &nodes[..words(format) as usize];
+        let bits: Vec<bool> = stored.iter().flat_map(|c| (0..width(format)).rev().map(move |at| c / (1 << at) % 2 == 1)).collect();
+        let image = bytes_of(&bits);
+        assert_eq!(image.len(), length(format));
         Table { nodes, bits, image }
     }
 }
 
-/// The table of a precision.
-pub fn table(k: u32) -> &'static Table {
+/// Bits in bytes, the first one the most significant, with zeros to the end of the last byte.
+pub fn bytes_of(bits: &[bool]) -> Vec<u8> {
+    bits.chunks(8).map(|byte| (0..8).fold(0, |sum, at| 2 * sum + u8::from(byte.get(at) == Some(&true)))).collect()
+}
+
+/// The table of a format.
+pub fn table(format: Format) -> &'static Table {
     static TABLES: OnceLock<Vec<Table>> = OnceLock::new();
-    assert!(is_precision(k));
-    &TABLES.get_or_init(|| precisions().map(Table::new).collect())[(k - LEAST) as usize]
+    assert!(is_precision(format.precision));
+    let tables = TABLES.get_or_init(|| formats().map(Table::new).collect());
+    &tables[2 * (format.precision - LEAST) as usize + form(format)]
+}
+
+/// The nodes of a precision.
+pub fn nodes(k: u32) -> &'static [u64] {
+    &table(Format::plain(k)).nodes
 }
 
 /// What stands for node j of precision 8 where no image is given: its value, and 0 where there is no such node.
 pub fn constant_node(j: u32) -> u64 {
-    table(8).nodes.get(j as usize).copied().unwrap_or(0)
+    nodes(8).get(j as usize).copied().unwrap_or(0)
 }
 
 /// The piece of a normalised operand: it lies between nodes j and j + 1.
@@ -92,7 +131,7 @@ pub fn interpolated(k: u32, n: u32, x: u64) -> u64 {
     let (j, t) = (piece(k, n, x), cut(k, n, x));
     let left = (power(k) + j as u128) * power(k + 3);
     let right = left + power(k + 3);
-    let (high, low) = (u128::from(table(k).nodes[j]), u128::from(table(k).nodes[j + 1]));
+    let (high, low) = (u128::from(nodes(k)[j]), u128::from(nodes(k)[j + 1]));
     ((high * (right - t) + low * (t - left)) / (4 * (right - left))) as u64
 }
 
@@ -105,62 +144,64 @@ pub fn within_an_ulp(k: u32, n: u32, x: u64, r: u64) -> bool {
 pub type Refusal = (u32, bool);
 
 /// The refusals of every call on an image, in their order.
-pub fn image_refusals(k: u32, length: usize) -> [Refusal; 2] {
-    let short = 8 * (length as u128) < power(k) * (2 * u128::from(k) + 2);
-    [(1, !is_precision(k)), (2, short)]
+pub fn image_refusals(format: Format, length: usize) -> [Refusal; 2] {
+    let short = 8 * (length as u128) < words(format) * width(format) as u128;
+    [(1, !is_precision(format.precision)), (2, short)]
 }
 
 /// The refusals of reading a node but for wrong words.
-pub fn node_refusals(k: u32, length: usize, j: u32) -> [Refusal; 3] {
-    let [first, second] = image_refusals(k, length);
-    [first, second, (3, u128::from(j) > power(k))]
+pub fn node_refusals(format: Format, length: usize, j: u32) -> [Refusal; 3] {
+    let [first, second] = image_refusals(format, length);
+    [first, second, (3, u128::from(j) > power(format.precision))]
 }
 
 /// The refusals of the reciprocal but for wrong words.
-pub fn reciprocal_refusals(k: u32, length: usize, n: u32, x: u64) -> [Refusal; 4] {
-    let [first, second] = image_refusals(k, length);
+pub fn reciprocal_refusals(format: Format, length: usize, n: u32, x: u64) -> [Refusal; 4] {
+    let [first, second] = image_refusals(format, length);
     let fraction_bits = !(LEAST_FRACTION_BITS..=MOST_FRACTION_BITS).contains(&n);
     let not_normalised = u128::from(x) < power(n) || u128::from(x) >= 2 * power(n);
     [first, second, (4, fraction_bits), (5, not_normalised)]
 }
 
-/// What is known of a lent buffer: the bytes that it is said to have, which words of precision k are wrong in it, and which bytes of its
-/// tail, past the image, are not zero.
+/// What is known of a lent buffer: the bytes that it is said to have, which words of the format are wrong in it, and which bytes have a bit
+/// set behind the last word: the image's last byte by a filling bit, and those of the tail.
 pub struct Judged {
-    pub k: u32,
+    pub format: Format,
     pub length: usize,
     wrong: Vec<bool>,
     stray: BTreeSet<usize>,
 }
 
 impl Judged {
-    /// Judges the words that lie in the bytes, and the tail. Of the bytes, `length` are said to be lent.
-    pub fn new(k: u32, bytes: &[u8], length: usize) -> Judged {
-        let words = if is_precision(k) { (8 * bytes.len() / width(k)).min(power(k) as usize) } else { 0 };
-        let wrong = (0..words).map(|j| is_wrong(k, bytes, j)).collect();
-        let past = if is_precision(k) { table(k).image.len() } else { bytes.len() };
-        let stray = (past..bytes.len()).filter(|at| bytes[*at] != 0).collect();
-        Judged { k, length, wrong, stray }
+    /// Judges the words that lie in the bytes, and what stands behind them. Of the bytes, `length` are said to be lent.
+    pub fn new(format: Format, bytes: &[u8], length: usize) -> Judged {
+        if !is_precision(format.precision) {
+            return Judged { format, length, wrong: Vec::new(), stray: BTreeSet::new() };
+        }
+        let there = (8 * bytes.len() / width(format)).min(words(format) as usize);
+        let wrong = (0..there).map(|j| is_wrong(format, bytes, j)).collect();
+        let stray = (table(format).bits.len() / 8..bytes.len()).filter(|at| is_stray(format, bytes, *at)).collect();
+        Judged { format, length, wrong, stray }
     }
 
-    /// Judges anew the word that holds a bit, or the byte of the tail.
+    /// Judges anew the word that holds a bit, or the byte that holds it behind the words.
     pub fn again(&mut self, bytes: &[u8], bit: usize) {
-        let (j, byte) = (bit / width(self.k), bit / 8);
+        let (j, byte) = (bit / width(self.format), bit / 8);
         if j < self.wrong.len() {
-            self.wrong[j] = is_wrong(self.k, bytes, j);
-        } else if bytes[byte] != 0 {
+            self.wrong[j] = is_wrong(self.format, bytes, j);
+        } else if is_stray(self.format, bytes, byte) {
             self.stray.insert(byte);
         } else {
             self.stray.remove(&byte);
         }
     }
 
-    /// A byte of the tail is not zero, though it lies past the bytes that were judged.
+    /// A byte behind the words is not zero, though it lies past the bytes that were judged.
     pub fn stray_at(&mut self, at: usize) {
         self.stray.insert(at);
     }
 
-    /// Whether a byte of the tail is not zero.
+    /// Whether a bit behind the words is set.
     pub fn has_stray(&self) -> bool {
         !self.stray.is_empty()
     }
@@ -177,38 +218,42 @@ impl Judged {
         }
     }
 
+    /// The words of these nodes, as far as each has one.
+    fn words_of(&self, nodes: Range<usize>) -> Range<usize> {
+        nodes.start..nodes.end.min(words(self.format) as usize)
+    }
+
     pub fn build(&self) -> Answer {
-        self.answer(&image_refusals(self.k, self.length), || 0..0, || 0)
+        self.answer(&image_refusals(self.format, self.length), || 0..0, || 0)
     }
 
     pub fn check(&self) -> Answer {
-        let words = self.answer(&image_refusals(self.k, self.length), || 0..power(self.k) as usize, || 0);
+        let judged = self.answer(&image_refusals(self.format, self.length), || self.words_of(0..usize::MAX), || 0);
         match self.stray.first() {
-            Some(at) if words.number == 0 => Answer { number: 7, place: *at as u64, value: 0 },
-            _ => words,
+            Some(at) if judged.number == 0 => Answer { number: 7, place: *at as u64, value: 0 },
+            _ => judged,
         }
     }
 
     pub fn node(&self, j: u32) -> Answer {
         let at = j as usize;
-        let words = power(self.k) as usize;
-        self.answer(&node_refusals(self.k, self.length, j), || at..(at + 1).min(words), || table(self.k).nodes[at])
+        let value = || nodes(self.format.precision)[at];
+        self.answer(&node_refusals(self.format, self.length, j), || self.words_of(at..at + 1), value)
     }
 
     pub fn reciprocal(&self, n: u32, x: u64) -> Answer {
-        let k = self.k;
-        let words = power(k) as usize;
-        let ends = || piece(k, n, x)..(piece(k, n, x) + 2).min(words);
-        self.answer(&reciprocal_refusals(k, self.length, n, x), ends, || interpolated(k, n, x))
+        let k = self.format.precision;
+        let ends = || self.words_of(piece(k, n, x)..piece(k, n, x) + 2);
+        self.answer(&reciprocal_refusals(self.format, self.length, n, x), ends, || interpolated(k, n, x))
     }
 
     pub fn word_bytes(&self, j: u32) -> Part {
-        let refused = image_refusals(self.k, self.length).iter().any(|(_, applies)| *applies);
-        if refused || u128::from(j) >= power(self.k) {
+        let refused = image_refusals(self.format, self.length).iter().any(|(_, applies)| *applies);
+        if refused || u128::from(j) >= words(self.format) {
             return Part { offset: 0, count: 0 };
         }
         // The bytes are told by their bits: the first that has a bit of the word, and how many have one.
-        let bits = j as usize * width(self.k)..(j as usize + 1) * width(self.k);
+        let bits = j as usize * width(self.format)..(j as usize + 1) * width(self.format);
         let mut bytes: Vec<usize> = bits.map(|bit| bit / 8).collect();
         bytes.dedup();
         Part { offset: bytes[0], count: bytes.len() }
@@ -216,13 +261,25 @@ impl Judged {
 }
 
 /// What a served builder leaves in a buffer of a length: the image, and zeros to the end.
-pub fn rom(k: u32, length: usize) -> Vec<u8> {
-    let mut bytes = table(k).image.clone();
+pub fn rom(format: Format, length: usize) -> Vec<u8> {
+    let mut bytes = table(format).image.clone();
     bytes.resize(length, 0);
     bytes
 }
 
+/// A bit, counted from the most significant of byte 0.
+fn bit_of(bytes: &[u8], bit: usize) -> bool {
+    bytes[bit / 8] >> (7 - bit % 8) & 1 == 1
+}
+
 /// Whether the bits of word j are not those of the construction.
-fn is_wrong(k: u32, bytes: &[u8], j: usize) -> bool {
-    (j * width(k)..(j + 1) * width(k)).any(|bit| (bytes[bit / 8] >> (7 - bit % 8) & 1 == 1) != table(k).bits[bit])
+fn is_wrong(format: Format, bytes: &[u8], j: usize) -> bool {
+    let right = &table(format).bits;
+    (j * width(format)..(j + 1) * width(format)).any(|bit| bit_of(bytes, bit) != right[bit])
+}
+
+/// Whether a byte has a bit set that stands behind the last word.
+fn is_stray(format: Format, bytes: &[u8], at: usize) -> bool {
+    let past = table(format).bits.len();
+    bytes[at] != 0 && (8 * at >= past || (past..8 * at + 8).any(|bit| bit_of(bytes, bit)))
 }

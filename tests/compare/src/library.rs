@@ -1,4 +1,29 @@
 //! The library, as the C header declares it; declared here once more, so that no code of the Rust crate stands between.
+use std::fmt::{self, Display, Formatter};
+
+/// The table that a call is asked for: its precision, and its form, 0 for plain words and any other number for full ones.
+#[repr(C)]
+#[derive(Clone, Copy, Debug, PartialEq, Eq)]
+pub struct Format {
+    pub precision: u32,
+    pub form: u32,
+}
+
+impl Format {
+    pub const fn plain(precision: u32) -> Format {
+        Format { precision, form: 0 }
+    }
+
+    pub const fn full(precision: u32) -> Format {
+        Format { precision, form: 1 }
+    }
+}
+
+impl Display for Format {
+    fn fmt(&self, out: &mut Formatter) -> fmt::Result {
+        write!(out, "k {}, form {}", self.precision, self.form)
+    }
+}
 
 /// What a call answers: the number of a refusal or 0, its place, and the value of a served call in the unit of that call.
 #[repr(C)]
@@ -32,60 +57,61 @@ pub struct Lent {
 }
 
 mod declared {
-    use super::{Answer, Part, TableUnits};
+    use super::{Answer, Format, Part, TableUnits};
 
     extern "C" {
-        pub fn yildegga_image_length(k: u32) -> usize;
-        pub fn yildegga_build(k: u32, image: *mut u8, length: usize) -> Answer;
-        pub fn yildegga_check(k: u32, image: *const u8, length: usize) -> Answer;
-        pub fn yildegga_node(k: u32, image: *const u8, length: usize, j: u32) -> Answer;
+        pub fn yildegga_image_length(format: Format) -> usize;
+        pub fn yildegga_build(format: Format, image: *mut u8, length: usize) -> Answer;
+        pub fn yildegga_check(format: Format, image: *const u8, length: usize) -> Answer;
+        pub fn yildegga_node(format: Format, image: *const u8, length: usize, j: u32) -> Answer;
         pub fn yildegga_node_8(j: u32) -> TableUnits;
-        pub fn yildegga_word_bytes(k: u32, image: *const u8, length: usize, j: u32) -> Part;
-        pub fn yildegga_reciprocal(k: u32, image: *const u8, length: usize, n: u32, x: u64) -> Answer;
-        pub fn yildegga_bound_node(k: u32, image: *const u8, length: usize, j: u32) -> Answer;
-        pub fn yildegga_bound_reciprocal(k: u32, image: *const u8, length: usize, n: u32, x: u64) -> Answer;
+        pub fn yildegga_word_bytes(format: Format, image: *const u8, length: usize, j: u32) -> Part;
+        pub fn yildegga_reciprocal(format: Format, image: *const u8, length: usize, n: u32, x: u64) -> Answer;
+        pub fn yildegga_bound_node(format: Format, image: *const u8, length: usize, j: u32) -> Answer;
+        pub fn yildegga_bound_reciprocal(format: Format, image: *const u8, length: usize, n: u32, x: u64) -> Answer;
     }
 }
 
-pub fn image_length(k: u32) -> usize {
-    unsafe { declared::yildegga_image_length(k) }
+pub fn image_length(format: Format) -> usize {
+    unsafe { declared::yildegga_image_length(format) }
 }
 
-pub fn build(k: u32, image: Lent) -> Answer {
-    unsafe { declared::yildegga_build(k, image.start, image.length) }
+pub fn build(format: Format, image: Lent) -> Answer {
+    unsafe { declared::yildegga_build(format, image.start, image.length) }
 }
 
-pub fn check(k: u32, image: Lent) -> Answer {
-    unsafe { declared::yildegga_check(k, image.start, image.length) }
+pub fn check(format: Format, image: Lent) -> Answer {
+    unsafe { declared::yildegga_check(format, image.start, image.length) }
 }
 
-pub fn node(k: u32, image: Lent, j: u32) -> Answer {
-    unsafe { declared::yildegga_node(k, image.start, image.length, j) }
+pub fn node(format: Format, image: Lent, j: u32) -> Answer {
+    unsafe { declared::yildegga_node(format, image.start, image.length, j) }
 }
 
 pub fn node_8(j: u32) -> TableUnits {
     unsafe { declared::yildegga_node_8(j) }
 }
 
-pub fn word_bytes(k: u32, image: Lent, j: u32) -> Part {
-    unsafe { declared::yildegga_word_bytes(k, image.start, image.length, j) }
+pub fn word_bytes(format: Format, image: Lent, j: u32) -> Part {
+    unsafe { declared::yildegga_word_bytes(format, image.start, image.length, j) }
 }
 
 #[inline(always)]
-pub fn reciprocal(k: u32, image: Lent, n: u32, x: u64) -> Answer {
-    unsafe { declared::yildegga_reciprocal(k, image.start, image.length, n, x) }
+pub fn reciprocal(format: Format, image: Lent, n: u32, x: u64) -> Answer {
+    unsafe { declared::yildegga_reciprocal(format, image.start, image.length, n, x) }
 }
 
-pub fn bound_node(k: u32, image: Lent, j: u32) -> Answer {
-    unsafe { declared::yildegga_bound_node(k, image.start, image.length, j) }
+pub fn bound_node(format: Format, image: Lent, j: u32) -> Answer {
+    unsafe { declared::yildegga_bound_node(format, image.start, image.length, j) }
 }
 
 #[inline(always)]
-pub fn bound_reciprocal(k: u32, image: Lent, n: u32, x: u64) -> Answer {
-    unsafe { declared::yildegga_bound_reciprocal(k, image.start, image.length, n, x) }
+pub fn bound_reciprocal(format: Format, image: Lent, n: u32, x: u64) -> Answer {
+    unsafe { declared::yildegga_bound_reciprocal(format, image.start, image.length, n, x) }
 }
 
-/// The same calls with whole registers for the numbers of 32 bits: what stands in a register's upper half is no part of the number.
+/// The same calls with whole registers: a format is the precision in the lower half of one and the form in its upper half, and of a register
+/// for a number of 32 bits what stands in the upper half is no part of the number.
 #[allow(clashing_extern_declarations)]
 pub mod wide {
     use super::{Answer, Lent, Part, TableUnits};
@@ -94,51 +120,51 @@ pub mod wide {
         use super::{Answer, Part, TableUnits};
 
         extern "C" {
-            pub fn yildegga_image_length(k: u64) -> usize;
-            pub fn yildegga_build(k: u64, image: *mut u8, length: usize) -> Answer;
-            pub fn yildegga_check(k: u64, image: *const u8, length: usize) -> Answer;
-            pub fn yildegga_node(k: u64, image: *const u8, length: usize, j: u64) -> Answer;
+            pub fn yildegga_image_length(format: u64) -> usize;
+            pub fn yildegga_build(format: u64, image: *mut u8, length: usize) -> Answer;
+            pub fn yildegga_check(format: u64, image: *const u8, length: usize) -> Answer;
+            pub fn yildegga_node(format: u64, image: *const u8, length: usize, j: u64) -> Answer;
             pub fn yildegga_node_8(j: u64) -> TableUnits;
-            pub fn yildegga_word_bytes(k: u64, image: *const u8, length: usize, j: u64) -> Part;
-            pub fn yildegga_reciprocal(k: u64, image: *const u8, length: usize, n: u64, x: u64) -> Answer;
-            pub fn yildegga_bound_node(k: u64, image: *const u8, length: usize, j: u64) -> Answer;
-            pub fn yildegga_bound_reciprocal(k: u64, image: *const u8, length: usize, n: u64, x: u64) -> Answer;
+            pub fn yildegga_word_bytes(format: u64, image: *const u8, length: usize, j: u64) -> Part;
+            pub fn yildegga_reciprocal(format: u64, image: *const u8, length: usize, n: u64, x: u64) -> Answer;
+            pub fn yildegga_bound_node(format: u64, image: *const u8, length: usize, j: u64) -> Answer;
+            pub fn yildegga_bound_reciprocal(format: u64, image: *const u8, length: usize, n: u64, x: u64) -> Answer;
         }
     }
 
-    pub fn image_length(k: u64) -> usize {
-        unsafe { declared::yildegga_image_length(k) }
+    pub fn image_length(format: u64) -> usize {
+        unsafe { declared::yildegga_image_length(format) }
     }
 
-    pub fn build(k: u64, image: Lent) -> Answer {
-        unsafe { declared::yildegga_build(k, image.start, image.length) }
+    pub fn build(format: u64, image: Lent) -> Answer {
+        unsafe { declared::yildegga_build(format, image.start, image.length) }
     }
 
-    pub fn check(k: u64, image: Lent) -> Answer {
-        unsafe { declared::yildegga_check(k, image.start, image.length) }
+    pub fn check(format: u64, image: Lent) -> Answer {
+        unsafe { declared::yildegga_check(format, image.start, image.length) }
     }
 
-    pub fn node(k: u64, image: Lent, j: u64) -> Answer {
-        unsafe { declared::yildegga_node(k, image.start, image.length, j) }
+    pub fn node(format: u64, image: Lent, j: u64) -> Answer {
+        unsafe { declared::yildegga_node(format, image.start, image.length, j) }
     }
 
     pub fn node_8(j: u64) -> TableUnits {
         unsafe { declared::yildegga_node_8(j) }
     }
 
-    pub fn word_bytes(k: u64, image: Lent, j: u64) -> Part {
-        unsafe { declared::yildegga_word_bytes(k, image.start, image.length, j) }
+    pub fn word_bytes(format: u64, image: Lent, j: u64) -> Part {
+        unsafe { declared::yildegga_word_bytes(format, image.start, image.length, j) }
     }
 
-    pub fn reciprocal(k: u64, image: Lent, n: u64, x: u64) -> Answer {
-        unsafe { declared::yildegga_reciprocal(k, image.start, image.length, n, x) }
+    pub fn reciprocal(format: u64, image: Lent, n: u64, x: u64) -> Answer {
+        unsafe { declared::yildegga_reciprocal(format, image.start, image.length, n, x) }
     }
 
-    pub fn bound_node(k: u64, image: Lent, j: u64) -> Answer {
-        unsafe { declared::yildegga_bound_node(k, image.start, image.length, j) }
+    pub fn bound_node(format: u64, image: Lent, j: u64) -> Answer {
+        unsafe { declared::yildegga_bound_node(format, image.start, image.length, j) }
     }
 
-    pub fn bound_reciprocal(k: u64, image: Lent, n: u64, x: u64) -> Answer {
-        unsafe { declared::yildegga_bound_reciprocal(k, image.start, image.length, n, x) }
+    pub fn bound_reciprocal(format: u64, image: Lent, n: u64, x: u64) -> Answer {
+        unsafe { declared::yildegga_bound_reciprocal(format, image.start, image.length, n, x) }
     }
 }

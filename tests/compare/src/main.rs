@@ -4,7 +4,7 @@
 //!                                    whose names hold it
 //!
 //! Prints `ok PART: COUNT cases` for each part. At the first difference it says which it is and ends with status 1. A case is one
-//! call with one set of inputs; the plain call and the one through a bound table are made of each and count once.
+//! call with one set of inputs; the call itself and the one through a bound table are made of each and count once. Every part has both forms.
 mod both;
 mod damage;
 mod fences;
@@ -22,9 +22,26 @@ mod work;
 
 use independent::GREATEST;
 use lent::Guards::{Bytes, Watched};
+use library::Format;
 use std::cell::Cell;
 use std::process::exit;
 use work::Counted;
+
+/// How many bits of an image lie from one that is changed to the next: each is, but of the long full images some.
+fn one_bit_step(format: Format) -> usize {
+    match format.form {
+        0 => 1,
+        _ => [1, 3, 7, 13, 29][format.precision.saturating_sub(8) as usize],
+    }
+}
+
+/// How many times fewer drawn damages the full form has, which is read and judged as the plain one is.
+fn rarer(format: Format) -> usize {
+    match format.form {
+        0 => 1,
+        _ => 5,
+    }
+}
 
 /// The parts of a run: those whose names hold a word.
 struct Parts<'a> {
@@ -59,13 +76,14 @@ impl Parts<'_> {
         self.part("constant nodes", images::constant_nodes);
         self.part("images built", || images::built(Bytes, &shifts));
         self.part("images read", || images::read(Bytes, &shifts));
-        self.part("one bit changed", || damage::one_bit(Bytes, |_| 1));
-        self.part("two bits changed", || damage::two_bits(Bytes, 4, 50_000));
-        self.part("any content", || damage::any_content(Bytes, 1000));
+        self.part("one bit changed", || damage::one_bit(Bytes, one_bit_step));
+        self.part("two bits changed", || damage::two_bits(Bytes, 4, |format| 50_000 / rarer(format)));
+        self.part("any content", || damage::any_content(Bytes, |format| 1000 / rarer(format)));
         self.part("every content of the shortest images", || damage::every_content(Bytes, 1));
         self.part("tails built", || tails::built(Bytes, 1));
         self.part("tails with one bit changed", || tails::one_bit(Bytes, 1));
         self.part("tails with more than one byte changed", || tails::several(Bytes, 1));
+        self.part("filling bits", || tails::filling(Bytes, true));
         self.part("tails of some MiB", || tails::long(Bytes, &[1 << 20, (5 << 20) + 3]));
         self.part("a tail beyond 4 GiB", fences::beyond_32_bits);
         self.part("refusals", || refusals::combinations(Bytes, true));
@@ -81,16 +99,17 @@ impl Parts<'_> {
         self.part("every short operand", || short::every_one(Watched, 4));
         self.part("bits to the right of short operands", || short::to_the_right(Watched, 3));
         self.part("limits of operands", || short::limits(Watched));
-        self.part("one bit changed", || damage::one_bit(Watched, |k| 1 << k));
-        self.part("two bits changed", || damage::two_bits(Watched, 1, 10));
-        self.part("any content", || damage::any_content(Watched, 1));
+        self.part("one bit changed", || damage::one_bit(Watched, |format| 1 << format.precision));
+        self.part("two bits changed", || damage::two_bits(Watched, 1, |_| 10));
+        self.part("any content", || damage::any_content(Watched, |_| 1));
         self.part("every content of the shortest images", || damage::every_content(Watched, 9973));
         self.part("tails built", || tails::built(Watched, 7));
         self.part("tails with one bit changed", || tails::one_bit(Watched, 7));
         self.part("tails with more than one byte changed", || tails::several(Watched, 7));
+        self.part("filling bits", || tails::filling(Watched, false));
         self.part("refusals", || refusals::combinations(Watched, false));
         self.part("upper halves of registers", || refusals::upper_halves(Watched));
-        self.part("fences", || fences::fenced(|k| 1 << (k / 2)));
+        self.part("fences", || fences::fenced(|k| 2 << (k / 2)));
     }
 }
 

@@ -1,7 +1,7 @@
 //! Operands on right images: every cut operand, and longer ones at the edges of the pieces.
-use crate::independent::{interpolated, power, precisions, table, within_an_ulp, MOST_FRACTION_BITS};
+use crate::independent::{both_forms, formats, interpolated, nodes, power, precisions, table, within_an_ulp, MOST_FRACTION_BITS};
 use crate::lent::{Buffer, Guards};
-use crate::library::{self, Answer};
+use crate::library::{self, Answer, Format, Lent};
 use crate::random::Random;
 use crate::work::{share, Counted};
 
@@ -10,49 +10,60 @@ pub fn served(value: u64) -> Answer {
 }
 
 #[cold]
-fn differs(k: u32, n: u32, x: u64, plain: Answer, bound: Answer, expected: Answer) -> String {
-    format!("reciprocal, k {k}, its image, n {n}, x {x}: the library gives {plain:?}, bound {bound:?}, expected is {expected:?}")
+fn differs(format: Format, n: u32, x: u64, found: [Answer; 2], expected: Answer) -> String {
+    format!("reciprocal, {format}, its image, n {n}, x {x}: the library gives {found:?}, the second bound, expected is {expected:?}")
 }
 
 #[cold]
-fn an_ulp_off(k: u32, n: u32, x: u64, r: u64) -> String {
-    format!("reciprocal, k {k}, its image, n {n}, x {x}: {r} is an ulp off or more, expected is less")
+fn an_ulp_off(format: Format, n: u32, x: u64, r: u64) -> String {
+    format!("reciprocal, {format}, its image, n {n}, x {x}: {r} is an ulp off or more, expected is less")
 }
 
-/// Pieces side by side, from one up to another, and the operands with n fraction bits in them.
+/// What the library answers, and what it does through a bound table.
+#[inline(always)]
+fn answered(format: Format, lent: Lent, n: u32, x: u64) -> [Answer; 2] {
+    [library::reciprocal(format, lent, n, x), library::bound_reciprocal(format, lent, n, x)]
+}
+
+/// Pieces side by side, from one up to another, the operands with n fraction bits in them, and whether these are taken in the full form too.
 pub struct Pieces {
     k: u32,
     n: u32,
     from: u64,
     to: u64,
+    full: bool,
 }
 
 impl Pieces {
-    /// All pieces of a precision, a few hundred thousand operands together.
-    pub fn all(k: u32, n: u32) -> impl Iterator<Item = Pieces> {
+    /// All pieces of a precision, a few hundred thousand operands together; of these each `every`-th and the last in the full form too.
+    pub fn all(k: u32, n: u32, every: u64) -> impl Iterator<Item = Pieces> {
         let count = 1 << k;
         let together = (1u64 << 18 >> n.saturating_sub(k)).min(count);
-        (0..count).step_by(together as usize).map(move |from| Pieces { k, n, from, to: from + together })
+        (0..count).step_by(together as usize).map(move |from| {
+            let to = from + together;
+            Pieces { k, n, from, to, full: from / together % every == 0 || to == count }
+        })
     }
 }
 
-/// Every operand with 2k + 3 fraction bits at every precision.
+/// Every operand with 2k + 3 fraction bits at every precision, in both forms.
 pub fn every_cut_operand() -> Counted {
-    let works: Vec<Pieces> = precisions().rev().flat_map(|k| Pieces::all(k, 2 * k + 3)).collect();
+    let works: Vec<Pieces> = precisions().rev().flat_map(|k| Pieces::all(k, 2 * k + 3, 1)).collect();
     share(&works, |pieces| every_operand(Guards::Bytes, pieces))
 }
 
 /// The line between two nodes is drawn step by step: at each operand the point falls by the same fraction of an ulp, and R is the
-/// whole ulps below it. All of it is held in whole parts, of which a table unit has as many as a piece has operands. With fewer than
-/// k fraction bits an operand stands at a node, but not at each.
+/// whole ulps below it, in either form. All of it is held in whole parts, of which a table unit has as many as a piece has operands. With
+/// fewer than k fraction bits an operand stands at a node, but not at each.
 pub fn every_operand(guards: Guards, pieces: &Pieces) -> Counted {
     let (k, n) = (pieces.k, pieces.n);
-    let nodes = &table(k).nodes;
+    let nodes = nodes(k);
     let (steps, apart) = (1u64 << n.saturating_sub(k), 1usize << k.saturating_sub(n));
     let ulp = 4 * steps as i64;
     let one = 1u64 << (n + 2 * k + 1);
-    let mut buffer = Buffer::new(guards, (pieces.from % 16) as usize, &table(k).image);
-    let lent = buffer.lent();
+    let [plain, full] = both_forms(k);
+    let mut buffers = [plain, full].map(|format| Buffer::new(guards, (pieces.from % 16) as usize, &table(format).image));
+    let [in_plain, in_full] = buffers.each_mut().map(Buffer::lent);
     let mut cases = 0;
     for j in (pieces.from..pieces.to).step_by(apart) {
         let (high, low) = (nodes[j as usize], nodes[j as usize + 1]);
@@ -60,12 +71,19 @@ pub fn every_operand(guards: Guards, pieces: &Pieces) -> Counted {
         let (mut whole, mut parts) = (high / 4, (high % 4 * steps) as i64);
         let left = ((1 << k) + j) * steps / apart as u64;
         for x in left..left + steps {
-            let (plain, bound) = (library::reciprocal(k, lent, n, x), library::bound_reciprocal(k, lent, n, x));
-            if plain != served(whole) || bound != served(whole) {
-                return Err(differs(k, n, x, plain, bound, served(whole)));
+            let expected = served(whole);
+            let found = answered(plain, in_plain, n, x);
+            if found != [expected; 2] {
+                return Err(differs(plain, n, x, found, expected));
             }
-            if (plain.value * x).abs_diff(one) >= x {
-                return Err(an_ulp_off(k, n, x, plain.value));
+            if (found[0].value * x).abs_diff(one) >= x {
+                return Err(an_ulp_off(plain, n, x, found[0].value));
+            }
+            if pieces.full {
+                let found = answered(full, in_full, n, x);
+                if found != [expected; 2] {
+                    return Err(differs(full, n, x, found, expected));
+                }
             }
             parts -= fall;
             while parts < 0 {
@@ -74,46 +92,67 @@ pub fn every_operand(guards: Guards, pieces: &Pieces) -> Counted {
             }
         }
         assert_eq!((whole, parts), (low / 4, (low % 4 * steps) as i64), "the line does not end at its node");
-        cases += steps;
+        cases += steps * if pieces.full { 2 } else { 1 };
     }
-    buffer.as_kept(|| format!("reciprocals at k {k}, n {n}, pieces {} to {}", pieces.from, pieces.to - 1))?;
+    for buffer in buffers {
+        buffer.as_kept(|| format!("reciprocals at k {k}, n {n}, pieces {} to {}", pieces.from, pieces.to - 1))?;
+    }
     Ok(cases)
 }
 
-/// The least number of longer operands at a precision with one number of fraction bits, where there are that many.
-const MANY: u64 = 1 << 17;
+/// How many pieces and operands are taken of those that there are. R does not depend on the form, and of the full one a sample is taken.
+struct Sample {
+    /// The least number of longer operands with one number of fraction bits, where there are that many.
+    many: u64,
+    /// The distance of the pieces whose edges are taken.
+    apart: usize,
+}
 
-/// Longer operands at every precision with every number of fraction bits.
+impl Sample {
+    fn of(format: Format) -> Sample {
+        match format.form {
+            0 => Sample { many: 1 << 17, apart: 1 },
+            _ => Sample { many: 1 << 14, apart: 1 << format.precision.saturating_sub(6) },
+        }
+    }
+}
+
+/// Longer operands in every format with every number of fraction bits.
 pub fn long_operands() -> Counted {
-    let works: Vec<(u32, u32)> = precisions().flat_map(|k| (2 * k + 4..=MOST_FRACTION_BITS).map(move |n| (k, n))).collect();
-    share(&works, |&(k, n)| {
-        let mut longer = Longer::new(k, n);
-        if 1 << n <= MANY {
+    let works: Vec<(Format, u32)> =
+        formats().flat_map(|format| (2 * format.precision + 4..=MOST_FRACTION_BITS).map(move |n| (format, n))).collect();
+    share(&works, |&(format, n)| {
+        let mut longer = Longer::new(format, n);
+        if 1 << n <= longer.sample.many {
             longer.every_one()?;
         } else {
             longer.edges()?;
             longer.more()?;
         }
-        longer.buffer.as_kept(|| format!("reciprocals at k {k}, n {n}"))?;
+        longer.buffer.as_kept(|| format!("reciprocals at {format}, n {n}"))?;
         Ok(longer.cases)
     })
 }
 
-/// Operands of one precision with n fraction bits, made of a cut operand and the bits to its right.
+/// Operands of one format with n fraction bits, made of a cut operand and the bits to its right.
 struct Longer {
+    format: Format,
     k: u32,
     n: u32,
     /// The bits to the right of a cut operand.
     right: u32,
+    sample: Sample,
     buffer: Buffer,
     random: Random,
     cases: u64,
 }
 
 impl Longer {
-    fn new(k: u32, n: u32) -> Longer {
-        let buffer = Buffer::new(Guards::Bytes, n as usize % 16, &table(k).image);
-        Longer { k, n, right: n - (2 * k + 3), buffer, random: Random::new(u64::from(64 * k + n)), cases: 0 }
+    fn new(format: Format, n: u32) -> Longer {
+        let k = format.precision;
+        let buffer = Buffer::new(Guards::Bytes, n as usize % 16, &table(format).image);
+        let random = Random::new(u64::from(64 * k + n));
+        Longer { format, k, n, right: n - (2 * k + 3), sample: Sample::of(format), buffer, random, cases: 0 }
     }
 
     /// The cut operand at f in piece j.
@@ -123,22 +162,23 @@ impl Longer {
 
     /// The operands of a cut operand t with these bits to its right: equal R, less than an ulp off, and the answer of t alone.
     fn compare(&mut self, t: u64, rights: &[u64]) -> Result<(), String> {
-        let (k, n, lent) = (self.k, self.n, self.buffer.lent());
-        let alone = library::reciprocal(k, lent, 2 * k + 3, t);
+        let (format, k, n, lent) = (self.format, self.k, self.n, self.buffer.lent());
+        let alone = library::reciprocal(format, lent, 2 * k + 3, t);
         for bits in rights {
             let x = t * (1 << self.right) + bits;
             let expected = served(interpolated(k, n, x));
-            let (plain, bound) = (library::reciprocal(k, lent, n, x), library::bound_reciprocal(k, lent, n, x));
-            if plain != expected || bound != expected {
-                return Err(differs(k, n, x, plain, bound, expected));
+            let found = answered(format, lent, n, x);
+            if found != [expected; 2] {
+                return Err(differs(format, n, x, found, expected));
             }
-            if plain != alone {
+            if found[0] != alone {
                 return Err(format!(
-                    "reciprocal, k {k}, its image: n {n}, x {x} gives {plain:?}, without the bits to the right of {t} it is {alone:?}"
+                    "reciprocal, {format}, its image: n {n}, x {x} gives {:?}, without the bits to the right of {t} it is {alone:?}",
+                    found[0]
                 ));
             }
-            if !within_an_ulp(k, n, x, plain.value) {
-                return Err(an_ulp_off(k, n, x, plain.value));
+            if !within_an_ulp(k, n, x, found[0].value) {
+                return Err(an_ulp_off(format, n, x, found[0].value));
             }
         }
         self.cases += rights.len() as u64;
@@ -159,10 +199,11 @@ impl Longer {
     }
 
     /// Both sides of each node and the middle of each piece, at both ends of the cut operand's interval and within it. The first has
-    /// 2^n, the last has 2^(n+1) - 1.
+    /// 2^n, the last has 2^(n+1) - 1. In the full form, where a precision has many pieces, some of them and the last one.
     fn edges(&mut self) -> Result<(), String> {
         let (steps, rights) = (1u64 << (self.k + 3), 1u64 << self.right);
-        for j in 0..1 << self.k {
+        let last = (1u64 << self.k) - 1;
+        for j in (0..last).step_by(self.sample.apart).chain([last]) {
             let within = self.random.below(steps);
             let places = vec![0, 1, 2, steps / 2 - 1, steps / 2, steps - 2, steps - 1, within];
             for f in Longer::distinct(places, steps) {
@@ -177,7 +218,7 @@ impl Longer {
     /// Operands in random pieces, half of them beside a node, with random bits to the right, until there are many.
     fn more(&mut self) -> Result<(), String> {
         let (steps, rights) = (1u64 << (self.k + 3), 1u64 << self.right);
-        while self.cases < MANY {
+        while self.cases < self.sample.many {
             let j = self.random.below(1 << self.k);
             let f = match self.random.below(4) {
                 0 => 0,

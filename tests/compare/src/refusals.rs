@@ -1,11 +1,11 @@
 //! Numbers at and beyond each limit, in every combination.
 use crate::both::{told, Both};
 use crate::independent::{
-    constant_node, image_refusals, is_precision, node_refusals, power, reciprocal_refusals, rom, table, Judged, Refusal, GREATEST, LENGTHS,
-    MOST_FRACTION_BITS,
+    both_forms, constant_node, image_refusals, is_precision, length, node_refusals, power, reciprocal_refusals, rom, table, Judged,
+    Refusal, FORMS, GREATEST, MOST_FRACTION_BITS,
 };
 use crate::lent::{Buffer, Guards};
-use crate::library::{self, wide, Answer, Lent, Part, TableUnits};
+use crate::library::{self, wide, Answer, Format, Lent, Part, TableUnits};
 use crate::random::Random;
 use crate::work::{share, Counted};
 use std::ptr;
@@ -16,6 +16,11 @@ fn asked_precisions() -> Vec<u32> {
     let beyond = [20, 31, 32, 33, 63, 64, 65, 127, 128, 255, 256, 257, 258, 268, 65538];
     let far = [(1 << 31) - 1, 1 << 31, (1 << 31) + 2, u32::MAX - 1, u32::MAX];
     (0..=16).chain(beyond).chain(far).collect()
+}
+
+/// The same in every form that has a number here.
+fn asked_formats() -> impl Iterator<Item = Format> {
+    asked_precisions().into_iter().flat_map(|precision| FORMS.map(|form| Format { precision, form }))
 }
 
 /// Node numbers about the last one, and powers of two and their neighbours.
@@ -53,28 +58,31 @@ const ROOM: usize = 32768;
 
 /// Lengths about each image length, and huge ones. The calls but the builder and the check look at nothing past the image, so that a buffer
 /// which has one may be said to have any length: this goes beyond what a caller may do.
-fn asked_lengths(k: u32) -> Vec<usize> {
+fn asked_lengths(format: Format) -> Vec<usize> {
+    let k = format.precision;
     let mut lengths = vec![0, 1, 2, 28671, 28672, ROOM, (1 << 31) - 1, 1 << 31];
     lengths.extend([32, 61, 63].iter().flat_map(|at| [(1 << at) - 1, 1 << at, (1 << at) + 1]));
     lengths.extend([usize::MAX - 1, usize::MAX]);
     if is_precision(k) {
-        let length = LENGTHS[k as usize - 1];
-        lengths.extend([length / 2, length.saturating_sub(2), length - 1, length, length + 1, length + 8]);
-        lengths.extend([8, 16, 32].map(|at| (1 << at) + length - 1)); // too short in fewer bits
-        lengths.push(LENGTHS[k as usize % 12]);
+        let own = length(format);
+        lengths.extend([own / 2, own.saturating_sub(2), own - 1, own, own + 1, own + 8]);
+        lengths.extend([8, 16, 32].map(|at| (1 << at) + own - 1)); // too short in fewer bits
+        lengths.push(length(Format { precision: k % 12 + 1, ..format }));
+        lengths.extend(both_forms(k).map(length)); // that of the other form too
     }
     sorted(lengths)
 }
 
 /// What a buffer holds, and whether each of its words is wrong. Where a byte follows the image, it is zero in two of these.
-fn contents(k: u32) -> Vec<(Vec<u8>, bool)> {
-    let k = if is_precision(k) { k } else { 12 };
-    let mut random = Random::new(u64::from(k));
-    let right: Vec<u8> = table(k).image.iter().copied().chain(random.bytes(ROOM)).take(ROOM).collect();
+fn contents(format: Format) -> Vec<(Vec<u8>, bool)> {
+    let format = if is_precision(format.precision) { format } else { Format { precision: 12, ..format } };
+    let image = &table(format).image;
+    let mut random = Random::new(u64::from(format.precision));
+    let right: Vec<u8> = image.iter().copied().chain(random.bytes(ROOM)).take(ROOM).collect();
     let wrong = right.iter().map(|byte| !byte).collect();
-    let full = rom(k, ROOM);
+    let full = rom(format, ROOM);
     let mut damaged = full.clone();
-    damaged[table(k).image.len() / 2] ^= 16;
+    damaged[image.len() / 2] ^= 16;
     vec![(right, false), (wrong, true), (full, false), (damaged, false), (random.bytes(ROOM), false)]
 }
 
@@ -105,80 +113,96 @@ impl Met {
     }
 }
 
-/// Every call with every combination of the numbers asked. Each pair of refusals must have been met.
+/// Every call with every combination of the numbers asked, in the plain form; in the others a part of them. In both, each pair of refusals must
+/// have been met.
 pub fn combinations(guards: Guards, whole: bool) -> Counted {
-    let works: Vec<(u32, usize)> =
-        asked_precisions().into_iter().flat_map(|k| asked_lengths(k).into_iter().map(move |length| (k, length))).collect();
-    let every = if whole { 1 } else { 11 };
+    let works: Vec<Format> = asked_formats().filter(|format| whole || format.form <= 1).collect();
     let (bits, operands) = (asked_fraction_bits(), asked_operands());
-    let (met_image, met_node, met_reciprocal) = (Met::new(), Met::new(), Met::new());
-    let cases = share(&works, |&(k, length)| {
+    // What was met in the plain form, and in the full one.
+    let [met_image, met_node, met_reciprocal] = [(); 3].map(|()| [Met::new(), Met::new()]);
+    let cases = share(&works, |&format| {
+        let form = usize::from(format.form != 0);
+        let every = match (whole, format.form) {
+            (true, 0) => 1,
+            (true, 1) => 11,
+            (true, _) => 67,
+            (false, 0) => 23,
+            (false, _) => 61,
+        };
         let mut cases = 0;
-        let mut random = Random::new(length as u64 ^ u64::from(k));
-        let kinds = contents(k);
-        for (content, wrong) in &kinds[..if whole { 5 } else { 2 }] {
+        let mut random = Random::new(u64::from(format.precision) ^ u64::from(format.form) << 32);
+        let kinds = &contents(format)[..if whole { 5 } else { 2 }];
+        for (length, (content, wrong)) in asked_lengths(format).into_iter().flat_map(|length| kinds.iter().map(move |kind| (length, kind)))
+        {
             let (wrong, there) = (*wrong, length.min(ROOM));
             let mut buffer = Buffer::new(guards, random.below(16) as usize, &content[..there]);
             let lent = Lent { length, ..buffer.lent() };
-            let judged = Judged::new(k, &content[..there], length);
+            let judged = Judged::new(format, &content[..there], length);
             let mut both = Both::new(lent, &judged, &content[..there]);
             let refused = judged.build().number != 0;
             let to_the_end = refused || there == length; // the builder and the check go to a buffer's end where they serve it
             if to_the_end {
                 both.check()?;
-                met_image.add(&image_refusals(k, length), wrong, judged.has_stray());
+                met_image[form].add(&image_refusals(format, length), wrong, judged.has_stray());
             }
-            for j in asked_nodes(k).into_iter().skip(random.below(every) as usize).step_by(every as usize) {
+            for j in asked_nodes(format.precision).into_iter().skip(random.below(every) as usize).step_by(every as usize) {
                 both.node(j)?;
                 both.word_bytes(j)?;
-                met_node.add(&node_refusals(k, length, j), wrong, false);
+                met_node[form].add(&node_refusals(format, length, j), wrong, false);
             }
             for n in &bits {
-                for x in operands.iter().skip(random.below(every) as usize).step_by(every as usize) {
+                // 1 always, which alone is normalised with no fraction bits.
+                for x in operands.iter().skip(random.below(every) as usize).step_by(every as usize).chain([&1]) {
                     both.reciprocal(*n, *x)?;
-                    met_reciprocal.add(&reciprocal_refusals(k, length, *n, *x), wrong, false);
+                    met_reciprocal[form].add(&reciprocal_refusals(format, length, *n, *x), wrong, false);
                 }
             }
-            buffer.as_kept(|| format!("the calls but build, k {k}, length {length}, on {}", told(k, &content[..there])))?;
+            buffer.as_kept(|| format!("the calls but build, {format}, length {length}, on {}", told(format, &content[..there])))?;
             if to_the_end {
                 both.build()?;
             }
             cases += both.cases;
             if to_the_end && !refused {
-                buffer.awaits(&rom(k, length));
+                buffer.awaits(&rom(format, length));
             }
-            buffer.as_kept(|| format!("build, k {k}, length {length}, on {}", told(k, &content[..there])))?;
+            buffer.as_kept(|| format!("build, {format}, length {length}, on {}", told(format, &content[..there])))?;
         }
         Ok(cases)
     })?;
-    met_image.all("check", &[1, 2, 6])?;
-    met_image.all("check", &[6, 7])?; // 7 needs bytes past an image: neither 1 nor 2 comes with it
-    met_node.all("node", &[1, 2, 3, 6])?;
-    met_reciprocal.all("reciprocal", &[1, 2, 4, 5, 6])?;
+    for form in 0..2 {
+        met_image[form].all("check", &[1, 2, 6])?;
+        met_image[form].all("check", &[6, 7])?; // 7 needs bytes past an image: neither 1 nor 2 comes with it
+        met_node[form].all("node", &[1, 2, 3, 6])?;
+        met_reciprocal[form].all("reciprocal", &[1, 2, 4, 5, 6])?;
+    }
     Ok(cases)
 }
 
-/// Registers whose upper halves are not 0: a number of 32 bits is what stands in the lower half.
+/// Whole registers. The upper half of a format's is its form, plain where it is 0 and full at whatever else; of those for numbers of 32 bits
+/// the upper half is no part of the number.
 pub fn upper_halves(guards: Guards) -> Counted {
     let mut random = Random::new(11);
     let mut cases = 0;
-    for k in asked_precisions() {
-        let image = &table(if is_precision(k) { k } else { GREATEST }).image;
-        let judged = Judged::new(k, image, image.len());
+    let forms = FORMS.into_iter().chain((3..32).step_by(4).map(|at| 1 << at));
+    for format in forms.flat_map(|form| asked_precisions().into_iter().map(move |precision| Format { precision, form })) {
+        let k = format.precision;
+        let image = &table(if is_precision(k) { format } else { Format { precision: GREATEST, ..format } }).image;
+        let judged = Judged::new(format, image, image.len());
         let image_length = if is_precision(k) { image.len() } else { 0 };
         let mut buffer = Buffer::new(guards, 1, image);
         let lent = buffer.lent();
+        let asked = u64::from(format.form) << 32 | u64::from(k);
         for upper in [1, 1 << 31, u64::from(u32::MAX), random.next() >> 32, random.next() >> 32, random.next() >> 32] {
-            for _ in 0..16 {
+            for _ in 0..2 {
                 let j = random.below((power(k.min(GREATEST)) + 2) as u64) as u32;
                 let n = random.below(u64::from(MOST_FRACTION_BITS) + 3) as u32;
                 let x = (1 << n.min(63)) + random.below(1 << n.min(63));
-                let [wide_k, wide_j, wide_n] = [k, j, n].map(|number| u64::from(number) | upper << 32);
+                let [wide_j, wide_n] = [j, n].map(|number| u64::from(number) | upper << 32);
                 let found = (
-                    [wide::build(wide_k, lent), wide::check(wide_k, lent)],
-                    [wide::node(wide_k, lent, wide_j), wide::bound_node(wide_k, lent, wide_j)],
-                    [wide::reciprocal(wide_k, lent, wide_n, x), wide::bound_reciprocal(wide_k, lent, wide_n, x)],
-                    (wide::word_bytes(wide_k, lent, wide_j), wide::image_length(wide_k), wide::node_8(wide_j)),
+                    [wide::build(asked, lent), wide::check(asked, lent)],
+                    [wide::node(asked, lent, wide_j), wide::bound_node(asked, lent, wide_j)],
+                    [wide::reciprocal(asked, lent, wide_n, x), wide::bound_reciprocal(asked, lent, wide_n, x)],
+                    (wide::word_bytes(asked, lent, wide_j), wide::image_length(asked), wide::node_8(wide_j)),
                 );
                 let expected = (
                     [judged.build(), judged.check()],
@@ -187,13 +211,13 @@ pub fn upper_halves(guards: Guards) -> Counted {
                     (judged.word_bytes(j), image_length, TableUnits { count: constant_node(j) }),
                 );
                 if found != expected {
-                    let inputs = format!("each call, k {k}, j {j}, n {n}, x {x}, its image, above the numbers {upper:#x}");
+                    let inputs = format!("each call, {format}, j {j}, n {n}, x {x}, its image, above the numbers {upper:#x}");
                     return Err(format!("{inputs}: the library gives {found:?}, expected is {expected:?}"));
                 }
                 cases += 7;
             }
         }
-        buffer.as_kept(|| format!("each call, k {k}, on its image"))?;
+        buffer.as_kept(|| format!("each call, {format}, on its image"))?;
     }
     Ok(cases)
 }
@@ -202,16 +226,16 @@ pub fn upper_halves(guards: Guards) -> Counted {
 pub fn no_bytes() -> Counted {
     let null = Lent { start: ptr::null_mut(), length: 0 };
     let mut cases = 0;
-    for k in asked_precisions() {
-        let refused = Answer { number: if is_precision(k) { 2 } else { 1 }, place: 0, value: 0 };
-        let judged = Judged::new(k, &[], 0);
+    for format in asked_formats() {
+        let refused = Answer { number: if is_precision(format.precision) { 2 } else { 1 }, place: 0, value: 0 };
+        let judged = Judged::new(format, &[], 0);
         let mut both = Both::new(null, &judged, &[]);
-        if judged.check() != refused || library::word_bytes(k, null, 0) != (Part { offset: 0, count: 0 }) {
-            return Err(format!("NULL with length 0, k {k}: expected are {refused:?} and no bytes"));
+        if judged.check() != refused || library::word_bytes(format, null, 0) != (Part { offset: 0, count: 0 }) {
+            return Err(format!("NULL with length 0, {format}: expected are {refused:?} and no bytes"));
         }
         both.check()?;
         both.build()?;
-        for j in asked_nodes(k) {
+        for j in asked_nodes(format.precision) {
             both.node(j)?;
             both.word_bytes(j)?;
         }

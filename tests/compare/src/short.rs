@@ -1,8 +1,8 @@
 //! Short operands, with fewer than the 2k + 3 fraction bits that the table looks at: every one of them, and what may stand to their right.
 //! The limits of an operand.
-use crate::independent::{interpolated, precisions, table, LEAST_FRACTION_BITS, MOST_FRACTION_BITS};
+use crate::independent::{both_forms, interpolated, precisions, table, FORMS, LEAST_FRACTION_BITS, MOST_FRACTION_BITS};
 use crate::lent::{Buffer, Guards};
-use crate::library::{self, Answer};
+use crate::library::{self, Answer, Format};
 use crate::operands::{every_operand, served, Pieces};
 use crate::random::Random;
 use crate::work::{share, Counted};
@@ -12,9 +12,10 @@ fn shorts(up_to: u32) -> impl Iterator<Item = (u32, u32)> {
     precisions().rev().filter(move |k| *k <= up_to).flat_map(|k| (LEAST_FRACTION_BITS..2 * k + 3).rev().map(move |n| (k, n)))
 }
 
-/// Every short operand at the precisions up to one.
+/// Every short operand at the precisions up to one, in the plain form; in the full one, as R does not depend on the form, all where they are few
+/// and a part of many.
 pub fn every_one(guards: Guards, up_to: u32) -> Counted {
-    let works: Vec<Pieces> = shorts(up_to).flat_map(|(k, n)| Pieces::all(k, n)).collect();
+    let works: Vec<Pieces> = shorts(up_to).flat_map(|(k, n)| Pieces::all(k, n, 16)).collect();
     share(&works, |pieces| every_operand(guards, pieces))
 }
 
@@ -34,29 +35,36 @@ pub fn longer(random: &mut Random, k: u32, n: u32, x: u64) -> (u32, u64) {
     (length, x * (1 << (length - n)) + random.below(1 << behind(k, length)))
 }
 
-/// The short operands at one precision with one number of fraction bits, at most.
-const MANY: u64 = 1 << 16;
+/// The short operands in one format with one number of fraction bits, at most. R does not depend on the form, and of the full one fewer are
+/// taken.
+fn many(format: Format) -> u64 {
+    match format.form {
+        0 => 1 << 16,
+        _ => 1 << 13,
+    }
+}
 
-/// Short operands at the precisions up to one with zeros to their right, up to 2k + 3 fraction bits and beyond, and with other bits behind
-/// those: the answer is that of the operand alone. Where n is small, each operand has each number of bits to its right.
+/// Short operands at the precisions up to one, in both forms, with zeros to their right, up to 2k + 3 fraction bits and beyond, and with other
+/// bits behind those: the answer is that of the operand alone. Where n is small, each operand has each number of bits to its right.
 pub fn to_the_right(guards: Guards, up_to: u32) -> Counted {
-    let works: Vec<(u32, u32)> = shorts(up_to).collect();
-    share(&works, |&(k, n)| {
+    let works: Vec<(Format, u32)> = shorts(up_to).flat_map(|(k, n)| both_forms(k).map(|format| (format, n))).collect();
+    share(&works, |&(format, n)| {
+        let k = format.precision;
         let mut random = Random::new(u64::from(64 * k + n));
-        let mut buffer = Buffer::new(guards, n as usize % 16, &table(k).image);
+        let mut buffer = Buffer::new(guards, n as usize % 16, &table(format).image);
         let lent = buffer.lent();
-        let least = 1u64 << n;
+        let (least, many) = (1u64 << n, many(format));
         let mut cases = 0;
-        for at in 0..least.min(MANY) {
+        for at in 0..least.min(many) {
             let x = match at {
                 0 => least,
                 1 => 2 * least - 1,
-                _ if least <= MANY => least + at - 1,
+                _ if least <= many => least + at - 1,
                 _ => least + random.below(least),
             };
-            let alone = library::reciprocal(k, lent, n, x);
+            let alone = library::reciprocal(format, lent, n, x);
             if alone.number != 0 {
-                return Err(format!("reciprocal, k {k}, its image, n {n}, x {x}: the library gives {alone:?}, expected is number 0"));
+                return Err(format!("reciprocal, {format}, its image, n {n}, x {x}: the library gives {alone:?}, expected is number 0"));
             }
             let some = [2 * k + 3, MOST_FRACTION_BITS, drawn_length(&mut random, n)];
             let lengths = if n <= 9 { (n + 1..=MOST_FRACTION_BITS).collect() } else { some.to_vec() };
@@ -65,10 +73,11 @@ pub fn to_the_right(guards: Guards, up_to: u32) -> Counted {
                 let others = [0, rights - 1, random.below(rights)];
                 for bits in &others[..if rights == 1 { 1 } else { 3 }] {
                     let longer = x * (1 << (length - n)) + bits;
-                    let found = [library::reciprocal(k, lent, length, longer), library::bound_reciprocal(k, lent, length, longer)];
+                    let found =
+                        [library::reciprocal(format, lent, length, longer), library::bound_reciprocal(format, lent, length, longer)];
                     if found != [alone; 2] {
                         return Err(format!(
-                            "reciprocal, k {k}, its image: n {length}, x {longer} gives {found:?}, the second bound; \
+                            "reciprocal, {format}, its image: n {length}, x {longer} gives {found:?}, the second bound; \
                              without the bits to the right of {x} it is {alone:?}"
                         ));
                     }
@@ -76,7 +85,7 @@ pub fn to_the_right(guards: Guards, up_to: u32) -> Counted {
                 }
             }
         }
-        buffer.as_kept(|| format!("reciprocals at k {k}, n {n} and more"))?;
+        buffer.as_kept(|| format!("reciprocals at {format}, n {n} and more"))?;
         Ok(cases)
     })
 }
@@ -85,25 +94,27 @@ fn refused(number: u32, place: u64) -> Answer {
     Answer { number, place, value: 0 }
 }
 
-/// The limits of n and X at each precision, on its image and on one of which each word is wrong. Refusals 4 and 5 are the same at every
-/// precision and come before 6.
+/// The limits of n and X in each format, on its image and on one of which each word is wrong. Refusals 4 and 5 are the same in every
+/// format and come before 6.
 pub fn limits(guards: Guards) -> Counted {
-    let works: Vec<(u32, bool)> = precisions().flat_map(|k| [(k, true), (k, false)]).collect();
-    share(&works, |&(k, right)| {
-        let image = &table(k).image;
+    let formats = precisions().flat_map(|precision| FORMS.map(|form| Format { precision, form }));
+    let works: Vec<(Format, bool)> = formats.flat_map(|format| [(format, true), (format, false)]).collect();
+    share(&works, |&(format, right)| {
+        let k = format.precision;
+        let image = &table(format).image;
         let content = if right { image.clone() } else { image.iter().map(|byte| !byte).collect() };
         let mut buffer = Buffer::new(guards, k as usize, &content);
         let lent = buffer.lent();
         let mut cases = 0;
         let mut compare = |n, x, expected| {
-            let found = [library::reciprocal(k, lent, n, x), library::bound_reciprocal(k, lent, n, x)];
+            let found = [library::reciprocal(format, lent, n, x), library::bound_reciprocal(format, lent, n, x)];
             cases += 1;
             if found == [expected; 2] {
                 return Ok(());
             }
             let which = if right { "its image" } else { "wrong words" };
             Err(format!(
-                "reciprocal, k {k}, {which}, n {n}, x {x}: the library gives {found:?}, the second bound, expected is {expected:?}"
+                "reciprocal, {format}, {which}, n {n}, x {x}: the library gives {found:?}, the second bound, expected is {expected:?}"
             ))
         };
         for n in [0, 64, 65, 66, 127, 128, 129, 255, 256, 257, 319, 65536, 65537, 1 << 31, (1 << 31) + 1, u32::MAX - 1, u32::MAX] {
@@ -126,7 +137,7 @@ pub fn limits(guards: Guards) -> Counted {
             compare(n, least, if right { served(1 << (2 * k + 1)) } else { refused(6, 0) })?;
             compare(n, greatest, if right { served(lowest) } else { refused(6, last) })?;
         }
-        buffer.as_kept(|| format!("reciprocals at k {k}, at the limits of operands"))?;
+        buffer.as_kept(|| format!("reciprocals at {format}, at the limits of operands"))?;
         Ok(cases)
     })
 }

@@ -1,9 +1,11 @@
 //! Tails, what stands in a buffer past the image: zeros written by the builder to the buffer's end, and read by the check; the other calls do
-//! not depend on them. Lengths of 0 to 80 bytes go through a block of 64 bytes, one of 8 and single bytes, one after the other; the buffers of images up to
-//! precision 9 start at each of the 64 bytes of a line of the cache, those of the longer ones at eight of these, and what the builder writes at all.
+//! not depend on them. Lengths of 0 to 80 bytes go through a block of 64 bytes, one of 8 and single bytes, one after the other. Before the tail
+//! stand the filling bits of a full image, for which the same holds.
 use crate::both::{told, Both};
-use crate::independent::{power, precisions, rom, table, Judged};
+use crate::fences::calls;
+use crate::independent::{formats, power, rom, table, Judged};
 use crate::lent::{Buffer, Guards};
+use crate::library::{Answer, Format};
 use crate::random::Random;
 use crate::work::{share, Counted};
 
@@ -12,15 +14,30 @@ fn lengths(step: usize) -> impl Iterator<Item = usize> {
     (0..=80).step_by(step)
 }
 
-/// A precision, and how many bytes after a multiple of 64 a buffer starts: one start alone where the lengths are not all. The long images,
-/// whose words take most of a check's time, have eight starts.
-fn works(step: usize, every_up_to: u32) -> Vec<(u32, usize)> {
-    let starts = |k: u32| match step {
-        1 if k <= every_up_to => (0..64).collect(),
-        1 => vec![0, 1, 7, 8, 15, 31, 32, 63],
-        _ => vec![0],
-    };
-    precisions().rev().flat_map(|k| starts(k).into_iter().map(move |start| (k, start))).collect()
+/// A format, and how many bytes after a multiple of 64 a buffer starts: one start alone where the lengths are not all.
+fn works(step: usize, starts: impl Fn(Format) -> Vec<usize>) -> Vec<(Format, usize)> {
+    let starts = |format| if step == 1 { starts(format) } else { vec![0] };
+    formats().rev().flat_map(|format| starts(format).into_iter().map(move |start| (format, start))).collect()
+}
+
+/// Some of the 64 bytes at which a buffer may start, the first and the last of a block of 8 and of the line among them.
+const SOME: [usize; 8] = [0, 1, 7, 8, 15, 31, 32, 63];
+
+/// Where buffers start that are checked. The words of long images take most of the time.
+fn checked_at(format: Format) -> Vec<usize> {
+    match (format.form, format.precision) {
+        (0, ..=7) => (0..64).collect(),
+        (0, _) | (_, ..=6) => SOME.to_vec(),
+        _ => vec![0, 31],
+    }
+}
+
+/// Where buffers start in which is built.
+fn built_at(format: Format) -> Vec<usize> {
+    match format.form {
+        0 => (0..64).collect(),
+        _ => SOME.to_vec(),
+    }
 }
 
 /// A buffer whose content changes, and how it is judged.
@@ -31,8 +48,8 @@ struct Changed {
 }
 
 impl Changed {
-    fn new(guards: Guards, k: u32, start: usize, content: &[u8]) -> Changed {
-        Changed { buffer: Buffer::new(guards, start, content), judged: Judged::new(k, content, content.len()), cases: 0 }
+    fn new(guards: Guards, format: Format, start: usize, content: &[u8]) -> Changed {
+        Changed { buffer: Buffer::new(guards, start, content), judged: Judged::new(format, content, content.len()), cases: 0 }
     }
 
     fn flip(&mut self, bit: usize) {
@@ -48,15 +65,15 @@ impl Changed {
         Ok(())
     }
 
-    /// The calls that look at nothing past the image: about the last word, which ends where the tail begins.
+    /// The calls that look at nothing behind the words: about the last of them.
     fn others(&mut self) -> Result<(), String> {
-        let k = self.judged.k;
-        let last = power(k) as u32 - 1;
+        let k = self.judged.format.precision;
+        let last = power(k) as u32;
         let mut both = Both::new(self.buffer.lent(), &self.judged, self.buffer.bytes());
+        both.node(last - 1)?;
         both.node(last)?;
-        both.node(last + 1)?;
+        both.word_bytes(last - 1)?;
         both.word_bytes(last)?;
-        both.word_bytes(last + 1)?;
         both.reciprocal(2 * k + 3, (1 << (2 * k + 4)) - 1)?;
         self.cases += both.cases;
         Ok(())
@@ -64,8 +81,8 @@ impl Changed {
 
     /// The number of cases, where nothing was written.
     fn unwritten(self) -> Counted {
-        let (k, bytes) = (self.judged.k, self.buffer.bytes());
-        self.buffer.as_kept(|| format!("the calls but build, k {k}, on {}", told(k, bytes)))?;
+        let (format, bytes) = (self.judged.format, self.buffer.bytes());
+        self.buffer.as_kept(|| format!("the calls but build, {format}, on {}", told(format, bytes)))?;
         Ok(self.cases)
     }
 }
@@ -73,41 +90,42 @@ impl Changed {
 /// Images built over bytes of which none is zero in the tail: after it stand the image and zeros, and the guard bytes. Where the buffer is too
 /// short by a byte, or there is no such precision, every byte stays.
 pub fn built(guards: Guards, step: usize) -> Counted {
-    share(&works(step, 12), |&(k, start)| {
-        let image = &table(k).image;
+    share(&works(step, built_at), |&(format, start)| {
+        let image = &table(format).image;
         let mut random = Random::new(start as u64);
         let mut cases = 0;
         for more in lengths(step) {
             let length = image.len() + more;
             let content: Vec<u8> = random.bytes(image.len()).into_iter().chain(random.bytes(more).into_iter().map(|b| b | 16)).collect();
             let mut buffer = Buffer::new(guards, start, &content);
-            for k in [0, 13 + more as u32] {
-                Both::new(buffer.lent(), &Judged::new(k, &content, length), &content).build()?;
-                buffer.as_kept(|| format!("build, k {k}, length {length}, {start} bytes after a multiple of 64"))?;
+            for precision in [0, 13 + more as u32] {
+                let none = Format { precision, ..format };
+                Both::new(buffer.lent(), &Judged::new(none, &content, length), &content).build()?;
+                buffer.as_kept(|| format!("build, {none}, length {length}, {start} bytes after a multiple of 64"))?;
             }
-            Both::new(buffer.lent(), &Judged::new(k, &content, length), &content).build()?;
-            buffer.awaits(&rom(k, length));
-            buffer.as_kept(|| format!("build, k {k}, length {length}, {start} bytes after a multiple of 64"))?;
+            Both::new(buffer.lent(), &Judged::new(format, &content, length), &content).build()?;
+            buffer.awaits(&rom(format, length));
+            buffer.as_kept(|| format!("build, {format}, length {length}, {start} bytes after a multiple of 64"))?;
             cases += 3;
         }
         let short = random.bytes(image.len() - 1);
         let mut buffer = Buffer::new(guards, start, &short);
-        Both::new(buffer.lent(), &Judged::new(k, &short, short.len()), &short).build()?;
-        buffer.as_kept(|| format!("build, k {k}, a byte too short, {start} bytes after a multiple of 64"))?;
+        Both::new(buffer.lent(), &Judged::new(format, &short, short.len()), &short).build()?;
+        buffer.as_kept(|| format!("build, {format}, a byte too short, {start} bytes after a multiple of 64"))?;
         Ok(cases + 1)
     })
 }
 
-/// Full ROMs, which pass the check, and every single bit of their tails changed; the other calls once with each byte changed.
+/// Full ROMs, which pass the check, and every single bit behind their words changed; the other calls once with each byte changed.
 pub fn one_bit(guards: Guards, step: usize) -> Counted {
-    share(&works(step, 9), |&(k, start)| {
-        let image = &table(k).image;
+    share(&works(step, checked_at), |&(format, start)| {
+        let image = &table(format).image;
         let mut cases = 0;
         for more in lengths(step) {
-            let mut changed = Changed::new(guards, k, start, &rom(k, image.len() + more));
+            let mut changed = Changed::new(guards, format, start, &rom(format, image.len() + more));
             changed.check()?;
             changed.others()?;
-            for bit in 8 * image.len()..8 * (image.len() + more) {
+            for bit in table(format).bits.len()..8 * (image.len() + more) {
                 changed.flip(bit);
                 changed.check()?;
                 if bit % 8 == (bit / 8 + start) % 8 {
@@ -122,17 +140,19 @@ pub fn one_bit(guards: Guards, step: usize) -> Counted {
     })
 }
 
-/// Tails in which several bytes are not zero, of which the lowest is named, and the same with a wrong word, which is named before them.
+/// Full ROMs in which several bits behind the words are set, of which the lowest byte is named, and the same with a wrong word, which is named
+/// before them.
 pub fn several(guards: Guards, step: usize) -> Counted {
-    share(&works(step, 9), |&(k, start)| {
-        let image = &table(k).image;
-        let bits = 8 * image.len() as u64;
+    share(&works(step, checked_at), |&(format, start)| {
+        let image = &table(format).image;
+        let bits = table(format).bits.len() as u64;
         let mut random = Random::new(start as u64 ^ 77);
         let mut cases = 0;
         for more in lengths(step).filter(|more| *more > 0) {
-            let mut changed = Changed::new(guards, k, start, &rom(k, image.len() + more));
+            let mut changed = Changed::new(guards, format, start, &rom(format, image.len() + more));
+            let behind = 8 * (image.len() + more) as u64 - bits;
             for _ in 0..12 {
-                let mut tail: Vec<usize> = (0..1 + random.below(5)).map(|_| (bits + random.below(8 * more as u64)) as usize).collect();
+                let mut tail: Vec<usize> = (0..1 + random.below(5)).map(|_| (bits + random.below(behind)) as usize).collect();
                 tail.sort_unstable();
                 tail.dedup();
                 let word = [0, bits - 1, random.below(bits)][random.below(3) as usize] as usize;
@@ -150,7 +170,7 @@ pub fn several(guards: Guards, step: usize) -> Counted {
             let mut content = [&image[..], &random.bytes(more)].concat();
             let zeros = random.below(more as u64 + 1) as usize;
             content[image.len()..image.len() + zeros].fill(0);
-            let mut changed = Changed::new(guards, k, start, &content);
+            let mut changed = Changed::new(guards, format, start, &content);
             changed.check()?;
             changed.others()?;
             cases += changed.unwritten()?;
@@ -159,20 +179,73 @@ pub fn several(guards: Guards, step: usize) -> Counted {
     })
 }
 
+/// The filling bits, each alone and in every combination, with no tail, with zeros and with a byte that is not zero behind the image: where
+/// every word is right the check names the image's last byte, and no other call is changed. The same with a wrong word, which is named before
+/// it. Where not the whole is asked for, each alone.
+pub fn filling(guards: Guards, whole: bool) -> Counted {
+    let filled: Vec<Format> = formats().filter(|format| table(*format).bits.len() % 8 != 0).collect();
+    assert_eq!(filled, [1, 3, 4, 5, 7, 8, 9, 11, 12].map(Format::full), "the images that have filling bits");
+    let works: Vec<(Format, usize)> =
+        filled.into_iter().flat_map(|format| (0..if whole { 16 } else { 1 }).map(move |start| (format, start))).collect();
+    share(&works, |&(format, start)| {
+        let (bits, image) = (table(format).bits.len(), &table(format).image);
+        let named = Answer { number: 7, place: image.len() as u64 - 1, value: 0 };
+        let some = 1 << format.precision.saturating_sub(if whole { 6 } else { 2 });
+        let mut random = Random::new(start as u64);
+        let mut cases = 0;
+        for more in [0usize, 1, 2, 8, 64, 80] {
+            for stray in [None, Some(0), more.checked_sub(1), Some(random.below(more as u64 + 1) as usize)] {
+                if stray.is_some_and(|at| at >= more) {
+                    continue;
+                }
+                let mut content = rom(format, image.len() + more);
+                if let Some(at) = stray {
+                    content[image.len() + at] = 128 >> random.below(8);
+                }
+                let mut changed = Changed::new(guards, format, start, &content);
+                let filling: Vec<usize> = (bits..8 * image.len()).collect();
+                for set in (1u32..1 << filling.len()).filter(|set| whole || set.is_power_of_two()) {
+                    let those: Vec<usize> = filling.iter().copied().filter(|bit| set >> (bit - bits) & 1 == 1).collect();
+                    those.iter().for_each(|bit| changed.flip(*bit));
+                    assert_eq!(changed.judged.check(), named);
+                    changed.check()?;
+                    changed.others()?;
+                    for word in [0, bits - 1, random.below(bits as u64) as usize] {
+                        changed.flip(word);
+                        changed.check()?;
+                        changed.others()?;
+                        changed.flip(word);
+                    }
+                    if set.is_power_of_two() {
+                        let mut both = Both::new(changed.buffer.lent(), &changed.judged, changed.buffer.bytes());
+                        calls(&mut both, some)?;
+                        changed.cases += both.cases;
+                    }
+                    those.iter().for_each(|bit| changed.flip(*bit));
+                }
+                cases += changed.unwritten()?;
+            }
+        }
+        Ok(cases)
+    })
+}
+
 /// Buffers of some MiB: built over drawn bytes, checked whole, and with one bit changed at the tail's ends, about multiples of 64 bytes
 /// counted from the buffer's start and from the tail's, and at drawn places.
 pub fn long(guards: Guards, lengths: &[usize]) -> Counted {
-    let works: Vec<(u32, usize)> = precisions().step_by(3).chain([2, 8, 12]).flat_map(|k| lengths.iter().map(move |l| (k, *l))).collect();
-    share(&works, |&(k, length)| {
-        let mut random = Random::new(length as u64 + u64::from(k));
-        let past = table(k).image.len();
+    let plain = [1, 4, 7, 10, 2, 8, 12].map(Format::plain);
+    let works: Vec<(Format, usize)> =
+        plain.into_iter().chain([1, 8, 12].map(Format::full)).flat_map(|format| lengths.iter().map(move |l| (format, *l))).collect();
+    share(&works, |&(format, length)| {
+        let mut random = Random::new(length as u64 + u64::from(format.precision));
+        let past = table(format).image.len();
         let start = random.below(64) as usize;
         let mut buffer = Buffer::new(guards, start, &random.bytes(length));
-        let judged = Judged::new(k, &[], length);
+        let judged = Judged::new(format, &[], length);
         Both::new(buffer.lent(), &judged, &[]).build()?;
-        buffer.awaits(&rom(k, length));
-        buffer.as_kept(|| format!("build, k {k}, length {length}, {start} bytes after a multiple of 64"))?;
-        let mut changed = Changed { judged: Judged::new(k, buffer.bytes(), length), buffer, cases: 1 };
+        buffer.awaits(&rom(format, length));
+        buffer.as_kept(|| format!("build, {format}, length {length}, {start} bytes after a multiple of 64"))?;
+        let mut changed = Changed { judged: Judged::new(format, buffer.bytes(), length), buffer, cases: 1 };
         changed.check()?;
         let mut places = vec![past, past + 1, length - 2, length - 1];
         for _ in 0..30 {
@@ -182,8 +255,8 @@ pub fn long(guards: Guards, lengths: &[usize]) -> Counted {
                 places.extend([multiple - 1, multiple, multiple + 1]);
             }
         }
-        for at in places {
-            let bit = 8 * at + random.below(8) as usize;
+        let drawn_bits: Vec<usize> = places.into_iter().map(|at| 8 * at + random.below(8) as usize).collect();
+        for bit in (table(format).bits.len()..8 * past).chain(drawn_bits) {
             changed.flip(bit);
             changed.check()?;
             changed.others()?;

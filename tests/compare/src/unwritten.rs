@@ -1,7 +1,7 @@
 //! Blocks of memory that nothing was written to, for a run under a memory checker: it reports a byte that a builder leaves out, or
 //! makes from what stood there.
 use crate::both::Both;
-use crate::independent::{precisions, rom, table, Judged};
+use crate::independent::{formats, rom, table, Judged};
 use crate::library::Lent;
 use crate::work::Counted;
 use std::alloc::{alloc, dealloc, Layout};
@@ -9,10 +9,10 @@ use std::slice;
 
 pub fn built() -> Counted {
     let mut cases = 0;
-    for (k, more) in precisions().flat_map(|k| [0, 1, 15, 64, 200].map(|more| (k, more))) {
-        let full = rom(k, table(k).image.len() + more);
+    for (format, more) in formats().flat_map(|format| [0, 1, 15, 64, 200].map(|more| (format, more))) {
+        let full = rom(format, table(format).image.len() + more);
         let block = Layout::array::<u8>(full.len()).expect("a short block");
-        let judged = Judged::new(k, &full, full.len());
+        let judged = Judged::new(format, &full, full.len());
         unsafe {
             let start = alloc(block);
             assert!(!start.is_null());
@@ -22,7 +22,7 @@ pub fn built() -> Counted {
             cases += both.cases;
             if slice::from_raw_parts(start, full.len()) != full {
                 return Err(format!(
-                    "build, k {k}, in a block of {} bytes that was not written to: what is in it is not the image and zeros",
+                    "build, {format}, in a block of {} bytes that was not written to: what is in it is not the image and zeros",
                     full.len()
                 ));
             }
