@@ -6,6 +6,7 @@ use mathlib.Core.Bool.{false, not}
 use mathlib.Core.List.{List}
 use Prim.Native.Nat.{ℕ, ◌*◌, ◌^◌, ◌≤◌, ◌<◌}
 use native.Mathlib.Omega.{arith}
+use lib.Pow.{pow_mono}
 use lib.ListN.{length}
 use lib.Dec.{ltb, eqb}
 use borrow.Author.Tests.{ltb-true, ltb-false}
@@ -14,7 +15,7 @@ use Rattle.std.specs.Option.{is_none}
 use Rattle.bools.proofs.Bools.{given, not_given}
 use Rattle.format.specs.Format.{precision_of, word_count, word_width}
 use Rattle.format.specs.declared.Format.{Format}
-use Rattle.format.proofs.Laws.{width_least, width_most}
+use Rattle.format.proofs.Laws.{width_least, width_most, count_least}
 use Rattle.nodes.specs.Inner.{quotients_of, judged_word}
 use Rattle.nodes.specs.declared.Quotients.{Quotients}
 use Rattle.nodes.proofs.Forms.{judged_wrong}
@@ -23,7 +24,7 @@ use Rattle.tail.proofs.Laws.{one_found, none_found}
 use Rattle.answers.specs.Refusal.{served, some_applies}
 use Rattle.answers.specs.Answer.{refused}
 use Rattle.answers.specs.declared.Refused.TheVariants.{Word, Tail}
-use Rattle.layout.specs.Layout.{Layout, end_of, first_wrong}
+use Rattle.layout.specs.Layout.{Layout, length_of, end_of, first_wrong}
 use Rattle.image.specs.Image.{table_of}
 use Rattle.image.specs.Refusals.{limits}
 use Rattle.image.specs.Calls.{check_outcome}
@@ -31,15 +32,16 @@ use Rattle.image.specs.Inner.{own_bytes, layout_of}
 use Rattle.image.proofs.Checks.{check_wrong, check_past, check_none}
 use Rattle.image.proofs.Laws.{own_layout}
 use Rattle.image.proofs.Limits.{limit_clear, clear_kept}
-use Rattle.image.proofs.OwnBytes.{own_wrong}
+use Rattle.image.proofs.OwnBytes.{own_length, own_wrong}
 use Rattle.checking.specs.Inner.{AreWords, wrong_word}
 use Rattle.checking.proofs.by_words.Goals as goal
 
 -- the words of a table are such as are checked
-are_words : (F : Format) → precision_of F ≤ 12 → AreWords (quotients_of F)
-are_words F high =
+are_words : (F : Format) → 1 ≤ precision_of F → precision_of F ≤ 12 → AreWords (quotients_of F)
+are_words F low high =
     record {
-      one = omega (arith, width_least F.form (precision_of F));
+      some = omega (arith, pow_mono low, count_least F.form (precision_of F));
+      wide = omega (arith, low, width_least F.form (precision_of F));
       two = omega (arith, high, width_most F.form (precision_of F));
       judges = judges;
     }
@@ -50,7 +52,11 @@ are_words F high =
 -- behind the test of the limits, t being the table of the format
 module _ (F : Format) (s : List ℕ) (t : Quotients) (clear : some_applies (limits F (length s)) ≡ false) (table : t ≡ quotients_of F) where
   are_checked : AreWords t
-  are_checked = rw table (are_words F (clear_kept F s clear).high)
+  are_checked = rw table (are_words F (clear_kept F s clear).low (clear_kept F s clear).high)
+
+  -- the image's own bytes are as many as it has
+  own_long : {bytes : List ℕ} → bytes ≡ own_bytes F s → length_of (layout_of t) ≤ length bytes
+  own_long own = rw (own, table) (omega (arith, own_length F s (clear_kept F s clear)))
 
   -- the lowest wrong word of the image's own bytes is that of the buffer
   wrong_is : {bytes : List ℕ} → bytes ≡ own_bytes F s → wrong_word (layout_of t) bytes ≡ wrong_word (table_of F) s
@@ -83,7 +89,11 @@ module _ (F : Format) (s : List ℕ) (t : Quotients) (clear : some_applies (limi
 pub first_wrong-requires : goal.first_wrong-requires
 first_wrong-requires c =
     let s = c.args.image.now in
-    are_checked c.args.format s c.in_ok-table.table (limit_clear c.args.format s c.in_ok-table.ensures.refusals) c.in_ok-table.ensures.numbers
+    let clear = limit_clear c.args.format s c.in_ok-table.ensures.refusals in
+    record {
+      words = are_checked c.args.format s c.in_ok-table.table clear c.in_ok-table.ensures.numbers;
+      long = own_long c.args.format s c.in_ok-table.table clear c.in_ok-table.ensures.numbers c.own_bytes.ensures.bytes;
+    }
 
 -- a word is wrong
 pub returns-in-Some : goal.returns-in-Some
