@@ -477,7 +477,7 @@ static void instead(uint32_t precision)
         printf("%-32s %9.2f %11.2f   %9.2f %11.2f\n", names[c], alone[c].least, alone[c].ratio, result[c].least, result[c].ratio);
 }
 
-// Beside two of the ratios stands what they were to be at most when the builder was made faster. In the full form the first two ways and the last
+// Beside two of the ratios stands what they were to be at most when the builder was made faster. In the full form the first three ways
 // are measured.
 static void otherwise_built(void)
 {

@@ -22,7 +22,7 @@ static inline void put(writer *to, uint32_t width, uint64_t word)
     }
 }
 
-// The whole bytes that still wait, for an image ends at one, and zeros to the buffer's end.
+// The whole bytes that still wait, and zeros to the buffer's end. A plain image ends at a byte; who builds a full one puts its filling bits first.
 static inline void put_rest(writer *to, uint8_t *end)
 {
     while (8 <= to->left) {

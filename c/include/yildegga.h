@@ -51,8 +51,8 @@ extern "C" {
 #define YILDEGGA_FRACTION_BITS 4u  /* n is below 1 or above 63 */
 #define YILDEGGA_NOT_NORMALISED 5u /* x is not from 2^n to 2^(n+1) - 1 */
 #define YILDEGGA_WRONG_WORD 6u     /* a word that the call reads is not the construction's: the place is the lowest such node */
-#define YILDEGGA_TAIL_NOT_ZERO 7u  /* a filling bit or a byte past the image is not zero: the place is the number of the lowest byte
-                                      that has such a bit, from 0 at the buffer's start */
+#define YILDEGGA_TAIL_NOT_ZERO 7u  /* a bit behind the last word is one, a filling bit or a bit past the image: the place is the number
+                                      of the lowest byte with such a bit, from 0 at the buffer's start */
 
 /* The limits. */
 #define YILDEGGA_LEAST_PRECISION 1u
@@ -79,8 +79,9 @@ extern "C" {
 #define YILDEGGA_PLAIN_WORDS 0u
 #define YILDEGGA_FULL_WORDS 1u
 
-/* The table that a call is asked for. It is made by YILDEGGA_PLAIN(k) or YILDEGGA_FULL(k), expressions of this type for any number k:
-   a later version may have more members, for which these stand as they are. */
+/* The table that a call is asked for. It is made by YILDEGGA_PLAIN(k) or YILDEGGA_FULL(k), expressions of this type for any k of 32 bits:
+   a later version may have more members, for which these stand as they are. They are no constant expressions: in strict C an object outside
+   a function cannot begin with one. */
 typedef struct { uint32_t precision; uint32_t form; } yildegga_format;
 
 #ifdef __cplusplus

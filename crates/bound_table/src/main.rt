@@ -1,4 +1,4 @@
-// Makes one bound table and uses it for two operands and a node: with the image of precision 2, with a byte too few, and with a wrong word.
+// Makes one bound table and uses it for two operands and a node: with the plain image of precision 2, with a byte too few, and with a wrong word.
 #![tactic(auto)]
 
 ghost use Rattle.std.specs.Prelude.{◌≡◌};

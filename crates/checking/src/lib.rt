@@ -51,7 +51,7 @@ fn window(image: &[u8], from: u64) -> u64
     eight << (from % 8)
 }
 
-// The last words, which are read where it is not known that eight bytes are there: those that could have 64 bits, as a word has 4 or more.
+// How many last words are left to `wrong_of_two`: sixteen, which have 64 bits or more, as a word has 4 or more, so that before them eight bytes are there.
 const LAST_WORDS: u32 = 16;
 
 // Passes pairs of right words behind the first one and before the last words, so that eight bytes are there and nothing has to be tested for that; gives up to

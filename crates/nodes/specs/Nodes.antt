@@ -24,7 +24,7 @@ leading_one k = 2 ^ word_width k
 abbrev pub stored_word : ℕ → ℕ → ℕ
 stored_word k j = node k j % leading_one k
 
--- the value that a plain word stands for at node j: the leading one is not stored, and the word is added to it; but a zero word at node 0
+-- the value that a word stands for at node j under a leading one that is not stored, to which the word is added; but a zero word at node 0
 -- means twice the leading one
 abbrev pub decode_under : ℕ → ℕ → ℕ → ℕ
 decode_under lead j word = cond (eqb j 0 && eqb word 0) (2 * lead) (lead + word)

@@ -15,7 +15,7 @@ greatest = 12
 abbrev pub in_range : ℕ → Bool
 in_range k = leb least k && leb k greatest
 
--- the bits of one word: w = 2k + 2
+-- the bits of one plain word: w = 2k + 2
 abbrev pub word_width : ℕ → ℕ
 word_width k = 2 * k + 2
 
@@ -23,14 +23,14 @@ word_width k = 2 * k + 2
 abbrev pub last_node : ℕ → ℕ
 last_node k = 2 ^ k
 
--- the words of an image: one for each node below the last, which has none
+-- the words of a plain image: one for each node below the last, which has none
 abbrev pub word_count : ℕ → ℕ
 word_count k = last_node k
 
--- the bytes of an image, which its words fill (2^k × (2k + 2) / 8 of them: `length_eighth` in Demand2)
+-- the bytes of a plain image, which its words fill (2^k × (2k + 2) / 8 of them: `length_eighth` in Demand2)
 abbrev pub image_length : ℕ → ℕ
 image_length k = byte_count (word_width k) (word_count k)
 
--- the bytes of the longest image
+-- the bytes of the longest plain image
 abbrev pub longest_image : ℕ
 longest_image = image_length greatest

@@ -30,7 +30,7 @@ fn requested(input: &[u8]) -> Precision
     Precision(k as u32)
 }
 
-// Writes the first line: the precision, and the image length in bytes.
+// Writes the first line: the precision, and the length of the plain image in bytes.
 fn header(text: &mut Text, k: Precision, bytes: usize)
     requires { Room text.old 58 }
     ensures { Wrote text.old (precision_text ++ field k.0 space ++ (bytes_text ++ field bytes line_feed)) text.new }

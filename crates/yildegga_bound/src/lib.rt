@@ -1,4 +1,4 @@
-// The calls through a bound table for C, so that what they compile to can be compared and measured. They stand apart from the plain calls: in a
+// The calls through a bound table for C, so that what they compile to can be compared and measured. They stand apart from the calls on an image: in a
 // library of their own the compiler has one caller of each call, and makes it one piece with the call beneath.
 #![tactic(auto)]
 
