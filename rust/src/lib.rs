@@ -15,7 +15,7 @@
 //! - a [`BoundTable`] keeps an image and its format together for many operands.
 //!
 //! The tail, and the filling bits that may follow the last word to its byte's end, are for [`build`] and [`check`]: the other calls give
-//! the same whatever they hold.
+//! the same whatever they hold, but that the bytes of the last full word show its filling bits as they are.
 //!
 //! No call has a precondition: whatever breaks a limit is turned back as a [`Refused`], with a number and a place, and leaves every
 //! byte as it was. No call panics, allocates or keeps anything.

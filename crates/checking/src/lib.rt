@@ -51,7 +51,8 @@ fn window(image: &[u8], from: u64) -> u64
     eight << (from % 8)
 }
 
-// How many last words are left to `wrong_of_two`: sixteen, which have 64 bits or more, as a word has 4 or more, so that before them eight bytes are there.
+// How many words, or one more, are left behind those that are passed: they have 64 bits or more, as a word has 4 or more, so that before them eight bytes are
+// there.
 const LAST_WORDS: u32 = 16;
 
 // Passes pairs of right words behind the first one and before the last words, so that eight bytes are there and nothing has to be tested for that; gives up to

@@ -1,12 +1,8 @@
 -- What holds of the words of every form: how wide and how many they are, and what their number says of k.
 -- Assumes nothing.
 use mathlib.Core.Path.{◌≡◌, sym, ap}
-use mathlib.Core.Bool.{true, false}
 use Prim.Native.Nat.{ℕ, ◌+◌, ◌*◌, ◌^◌, ◌≤◌}
 use native.Mathlib.Omega.{arith}
-use Rattle.std.specs.Prelude.{Some, None, if◌then◌else◌}
-use Rattle.bools.proofs.Bools.{given, not_given}
-use Rattle.precision.specs.Precision.{in_range}
 use Rattle.format.specs.Format.{precision_of, asked, plain_of, full_of, width_in, count_in}
 use Rattle.format.specs.declared.Form.{Form}
 use Rattle.format.specs.declared.Form.TheVariants.{Plain, Full}
@@ -29,13 +25,6 @@ count_least Full k = omega arith
 pub count_most : (f : Form) (k : ℕ) → count_in f k ≤ 2 ^ k + 1
 count_most Plain k = omega arith
 count_most Full k = omega arith
-
--- a count that is given is that of a precision, and none is given of what is no precision
-pub counted : (f : Form) (k n : ℕ) → Some n ≡ (if in_range k then Some (count_in f k) else None) → (in_range k ≡ true) × (n ≡ count_in f k)
-counted f k n e = given (in_range k) (count_in f k) n e
-
-pub no_words : (f : Form) (k : ℕ) → None ≡ (if in_range k then Some (count_in f k) else None) → in_range k ≡ false
-no_words f k e = not_given (in_range k) (count_in f k) e
 
 -- a format is that of its precision and form
 pub is_plain : (F : Format) → F.form ≡ Plain → plain_of (precision_of F) ≡ F

@@ -1,5 +1,5 @@
 // The image of a format: what it is stands in specs/, and here are the limits that every call on an image tests first, and the image's own bytes in
-// a buffer. Every call takes the format and the buffer as two parameters, since the bound table (crate `binding`) is where they are kept together.
+// a buffer. Every call on an image takes the format and the buffer as two parameters, since the bound table (crate `binding`) is where they are kept together.
 #![tactic(auto)]
 
 ghost use Rattle.std.specs.Prelude.{◌≡◌, IfOk};

@@ -3,16 +3,15 @@
 use mathlib.Core.Path.{◌≡◌, sym, ◌∙◌, ap}
 use mathlib.Core.Bool.{false, not}
 use mathlib.Core.List.{List, [], ◌++◌, append-nil}
-use Prim.Native.Nat.{ℕ, ◌+◌, ◌*◌, ◌%◌, ◌^◌, ◌≤◌, ◌<◌}
-use native.Mathlib.Nat.{mod-one}
+use Prim.Native.Nat.{ℕ, ◌+◌, ◌*◌, ◌^◌, ◌≤◌, ◌<◌}
 use native.Mathlib.Omega.{arith}
 use lib.Dec.{eqb, lit<}
 use lib.ListN.{length, take, drop, length-take, length-drop, take-append-drop}
 use borrow.Author.Tests.{eq-eqb, eqb-true, not-false}
 use Rattle.bools.proofs.Bools.{clash}
 use Rattle.bools.proofs.Lowest.{lowest_passes, lowest_before, lowest_none, lowest_agrees}
-use Rattle.packing.specs.Packing.{Bytes, fill_bits, bytes_value, first_byte, last_byte, span_bytes, bit_at, bit_of_word}
-use Rattle.packing.proofs.Image.{length-packed_bytes, packed_word, words_front_filled}
+use Rattle.packing.specs.Packing.{first_byte, last_byte, span_bytes, bit_at, bit_of_word}
+use Rattle.packing.proofs.Image.{length-packed_bytes, packed_word}
 use Rattle.packing.proofs.Words.{word_within, word_take, span_within}
 use Rattle.packing.proofs.Bits.{bit_of_packed}
 use Rattle.layout.specs.Layout.{Layout, end_of, length_of, image_of, word_in, is_wrong, first_wrong, part_of}
@@ -75,17 +74,11 @@ module _ (t : Layout) (fits : Fits t) where
   pub own_wrong : (s : List ℕ) → first_wrong t (take (length_of t) s) ≡ first_wrong t s
   own_wrong s = wrong_agrees t (take (length_of t) s) s (own_word s)
 
-  -- a buffer that starts with the image has its words, and, where they take whole bytes, the other way round
+  -- a buffer that starts with the image has its words
   pub front_right : (s : List ℕ) → take (length_of t) s ≡ image_of t → (j : ℕ) → j < t.count → word_in t s j ≡ t.word j
   front_right s e j h =
       ap (λ (u : List ℕ). word_in t u j) (sym (take-append-drop (length_of t) s) ∙ ap (λ (u : List ℕ). u ++ drop (length_of t) s) e)
       ∙ image_word j (drop (length_of t) s) h
-
-  pub right_front : Whole t → (s : List ℕ) → Bytes s → length_of t ≤ length s → ((j : ℕ) → j < t.count → word_in t s j ≡ t.word j) → take (length_of t) s ≡ image_of t
-  right_front whole s b h r =
-      let none : fill_bits t.width t.count ≡ 0 = omega (arith, whole) in
-      words_front_filled t.width t.word t.count s fits.one b h r
-      (ap (λ (f : ℕ). bytes_value s 0 (length_of t) % 2 ^ f) none ∙ mod-one (bytes_value s 0 (length_of t)))
 
   -- the bytes of a word lie within a buffer that is long enough, and are as many as hold it
   module _ (s : List ℕ) (j : ℕ) (h : j < t.count) (long : length_of t ≤ length s) where

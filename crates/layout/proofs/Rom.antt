@@ -9,20 +9,20 @@ use native.Mathlib.Nat.{zero-mod}
 use native.Mathlib.Omega.{arith}
 use lib.ListN.{length, take, drop, get_or, get_or-replicate, length-append, length-drop, take-append-drop}
 use lib.Seq.{take_at, get_or-append-add, get_or-drop, ext_get_or}
-use Rattle.bools.proofs.Bools.{clash, below_or_not}
+use Rattle.bools.proofs.Bools.{below_or_not}
 use Rattle.bools.specs.Lowest.{lowest}
-use Rattle.bools.proofs.Lowest.{lowest_passes, lowest_before, lowest_none}
+use Rattle.bools.proofs.Lowest.{lowest_before, lowest_none}
 use Rattle.packing.specs.Packing.{Bytes, fill_bits, bytes_value, bit_at}
 use Rattle.packing.proofs.Bytes.{value_low}
 use Rattle.packing.proofs.Bits.{bit_of_filling}
 use Rattle.packing.proofs.Image.{words_front_filled}
 use Rattle.tail.specs.Tail.{has_one_from, zeros}
 use Rattle.tail.specs.Inner.{cleared_from}
-use Rattle.tail.proofs.Laws.{none_bits, byte_before, byte_zero, none_zero, one_set}
+use Rattle.tail.proofs.Laws.{none_bits, byte_zero, none_zero}
 use Rattle.tail.proofs.Bits.{one_bit}
 use Rattle.tail.proofs.Zeros.{length-zeros, bytes-zeros}
 use Rattle.layout.specs.Layout.{Layout, end_of, length_of, image_of, rom_of, word_in, first_past}
-use Rattle.layout.proofs.Laws.{Fits, Whole, image-length, image_word}
+use Rattle.layout.proofs.Laws.{Fits, image-length, image_word}
 
 module _ (t : Layout) (n : ℕ) where
   -- it has its n bytes
@@ -102,23 +102,3 @@ module _ (t : Layout) (fits : Fits t) where
       none i l =
           ⊎_elim (λ b. in_image i b (has_one_from (end_of t) (rom_of t n) i) refl) (λ g. byte_zero (end_of t) (rom_of t n) i (rom_zero t n i g l))
           (below_or_not i (length_of t))
-
--- where the words take whole bytes, the lowest byte with a one behind them is the lowest one past the image that is not zero
-module _ (t : Layout) (whole : Whole t) (s : List ℕ) where
-  pub past_zero : Bytes s → (i : ℕ) → length_of t ≤ i → i < first_past t s → get_or s i 0 ≡ 0
-  past_zero bytes i h l = none_zero (end_of t) s i (omega (arith, h, whole)) (bytes i) (lowest_before (has_one_from (end_of t) s) (length s) i l)
-
-  pub past_there : first_past t s < length s → (length_of t ≤ first_past t s) × (get_or s (first_past t s) 0 ≡ 0 → ⊥)
-  past_there h = (behind, one_set (end_of t) s (first_past t s) there)
-    where
-      there : has_one_from (end_of t) s (first_past t s) ≡ true
-      there = lowest_passes (has_one_from (end_of t) s) (length s) h
-
-      behind : length_of t ≤ first_past t s
-      behind = ⊎_elim (λ l. absurd (clash there (byte_before (end_of t) s (first_past t s) (omega (arith, l, whole))))) (λ g. g) (below_or_not (first_past t s) (length_of t))
-
-  -- and there is none exactly where all of them are zero
-  pub past_none : ((i : ℕ) → length_of t ≤ i → i < length s → get_or s i 0 ≡ 0) → first_past t s ≡ length s
-  past_none z =
-      lowest_none (has_one_from (end_of t) s) (length s)
-      (λ i l. ⊎_elim (λ b. byte_before (end_of t) s i (omega (arith, b, whole))) (λ g. byte_zero (end_of t) s i (z i g l)) (below_or_not i (length_of t)))

@@ -80,7 +80,7 @@ pub fn value(k: Precision, j: u32) -> Option<TableUnits>
 }
 
 // What a word at node j stands for under a leading one; a zero word at node 0 means twice that. Whether the value is the
-// node's, `judged` tells. One test asks for both numbers: a check is a seventh faster so than by two.
+// node's, `judged` tells. One test asks for both numbers: a check was a seventh faster so than by two.
 pub fn decoded(lead: u32, j: u32, word: u32) -> TableUnits
     ensures { result.0 ≡ decode_under lead j word }
 {

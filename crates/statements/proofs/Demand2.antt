@@ -32,7 +32,8 @@
 --
 -- Which words and bytes a call reads is said by what its answer depends on (docs/DECISIONS.md, "Reading"): node_by_its_word, check_by_words,
 -- reciprocal_by_words, reciprocal_by_lower_word, word_by_its_bytes; none past the image: node_by_image, reciprocal_by_image, part_by_image,
--- part_place_by_image, and, where a word is wrong, check_by_image. Nor do the filling bits count but for a check that finds all words right:
+-- part_place_by_image, and, where a word is wrong, check_by_image. Nor do the filling bits count but for a check that finds all words right,
+-- and in the last of the bytes that are shown of the last word:
 -- node_by_bits, reciprocal_by_bits, check_by_bits. The reciprocal reads both words, whatever f is: lower_word_named, upper_word_named,
 -- upper_word_named_at_0.
 --
@@ -390,7 +391,7 @@ module _ (F : Format) (s s' : List ℕ) (p : IsPrecision (precision_of F)) (l : 
   pub part_place_by_image : (j : ℕ) → shown_from F s j ≡ shown_from F s' j
   part_place_by_image = Depends.front_place F s s' p l m e
 
--- Of the bits of a buffer these answers depend on those of its words alone: two buffers that agree there get the same answers, whatever fills the image's
+-- A node's answer and the reciprocal's depend, of the bits of a buffer, on those of its words alone: two buffers that agree there get the same answers, whatever fills the image's
 -- last byte and whatever stands behind it. So does the check where a word is wrong.
 module _ (F : Format) (s s' : List ℕ) (b : Bytes s) (b' : Bytes s') (l : IsLongEnough F s) (m : IsLongEnough F s') (e : (i : ℕ) → i < word_count F * word_width F → bit_at s i ≡ bit_at s' i) where
   pub node_by_bits : (j : ℕ) → node_outcome F s j ≡ node_outcome F s' j

@@ -5,8 +5,8 @@
 -- What a bench reads at word j of an image that was built is c(j): full_built_word, bit by bit full_built_bit. The image is these words, one after the
 -- other: full_image_bit; it ends at bit (2^k + 1) × (2k + 4): place_after_full, in Demand2. The nodes are read back: full_read_back. The bits that fill
 -- the last byte, and the bytes behind it, are zero: full_built_filling, full_built_tail.
--- Refusals (Demand1): 2, full_refuses_2; 6, which node 2^k gives like the rest, full_check_refuses_6, full_node_refuses_6, full_last_refuses_6,
--- full_reciprocal_refuses_6; 7, full_check_refuses_7, where a filling bit that is one counts at the image's last byte, full_filling_7. What is served:
+-- Refusals (Demand1): 2, full_refuses_2; 6, which node 2^k gives like the rest, full_check_refuses_6, full_check_place_6, full_node_refuses_6,
+-- full_last_refuses_6, full_reciprocal_refuses_6; 7, full_check_refuses_7, where a filling bit that is one counts at the image's last byte, full_filling_7. What is served:
 -- full_node_serves, full_reciprocal_serves, full_passes_words. The bytes that are shown, up to those of node 2^k: full_part_empty, full_part_length,
 -- full_part_from, full_part_bytes.
 --
@@ -89,6 +89,12 @@ module _ (k : ℕ) (s : List ℕ) where
   full_check_refuses_6 =
       joined (Demand1.check_refuses_6 (full_of k) s)
       (λ t. (t.0, t.1, (t.2.0, omega (arith, t.2.1), t.2.2)), λ t. (t.0, t.1, (t.2.0, omega (arith, t.2.1), t.2.2)))
+
+  -- the place is the lowest such node, up to node 2^k
+  pub full_check_place_6 : (check_outcome (full_of k) s).number ≡ 6
+      → ((check_outcome (full_of k) s).place ≤ 2 ^ k) × (word_at (2 * k + 4) s (check_outcome (full_of k) s).place ≡ node k (check_outcome (full_of k) s).place → ⊥)
+      × ((i : ℕ) → i < (check_outcome (full_of k) s).place → word_at (2 * k + 4) s i ≡ node k i)
+  full_check_place_6 e = let at = Demand1.check_place_6 (full_of k) s e in (omega (arith, at.0), at.1, at.2)
 
   -- 7: the words are right, and a byte has a one behind the last of them: at bit (2^k + 1) × (2k + 4) or later
   pub full_check_refuses_7 : ((check_outcome (full_of k) s).number ≡ 7)

@@ -29,7 +29,7 @@ use Rattle.inverting.specs.Inner.{IsPiece, IsPieceOf, both_in, lower_end, upper_
 use Rattle.inverting.proofs.Ends.{word_above}
 use Rattle.inverting.proofs.by_ends.Goals as goal
 
--- the table that the code has is that of the precision
+-- the table that the code has is that of the format
 table_is : (F : Format) {q : Quotients} → in_range (precision_of F) ≡ true → ok_or (quotients_there F) Precision ≡ Ok q → q ≡ quotients_of F
 table_is F {q} r e = let own : Ok (quotients_of F) ≡ Ok q = rw r at e in cc
 
