@@ -109,7 +109,7 @@ impl Parts<'_> {
         self.part("filling bits", || tails::filling(Watched, false));
         self.part("refusals", || refusals::combinations(Watched, false));
         self.part("upper halves of registers", || refusals::upper_halves(Watched));
-        self.part("fences", || fences::fenced(|k| 2 << (k / 2)));
+        self.part("fences", || fences::fenced(|k| 1 << (k / 2)));
     }
 }
 

@@ -126,7 +126,7 @@ pub fn combinations(guards: Guards, whole: bool) -> Counted {
             (true, 0) => 1,
             (true, 1) => 11,
             (true, _) => 67,
-            (false, 0) => 23,
+            (false, 0) => 11,
             (false, _) => 61,
         };
         let mut cases = 0;

@@ -26,7 +26,7 @@ const SOME: [usize; 8] = [0, 1, 7, 8, 15, 31, 32, 63];
 /// Where buffers start that are checked. The words of long images take most of the time.
 fn checked_at(format: Format) -> Vec<usize> {
     match (format.form, format.precision) {
-        (0, ..=7) => (0..64).collect(),
+        (0, ..=9) => (0..64).collect(),
         (0, _) | (_, ..=6) => SOME.to_vec(),
         _ => vec![0, 31],
     }
