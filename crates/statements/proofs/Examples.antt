@@ -39,7 +39,7 @@ roms_hold =
 
 faults_hold : Each FaultHolds fault_examples
 unfolding rounded_up word_at field_at lowest
-faults_hold = refl also refl also refl also refl also refl also refl also refl also tt
+faults_hold = refl also refl also refl also refl also refl also refl also refl also refl also refl also tt
 
 reciprocals_hold : Each ReciprocalHolds reciprocal_examples
 unfolding rounded_up word_at field_at

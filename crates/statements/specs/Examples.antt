@@ -108,8 +108,9 @@ pub record FaultExample : Type 0 where
   pub number : ℕ
   pub place : ℕ
 
--- of the second both 6 and 7 apply, and of the last too; the full words of k = 1 leave six bits of byte 2, of which the third example has the last one
--- set, the fourth the first one and a byte past the image with it; the fifth has a one too many in the word of node 2, which is node 2^k
+-- of the second both 6 and 7 apply, and of the seventh and the last too; the full words of k = 1 leave six bits of byte 2, of which the third example has the last one
+-- set, the fourth the first one and a byte past the image with it; the fifth has a one too many in the word of node 2, which is node 2^k. Those of k = 3
+-- leave six bits of byte 11, and the word of node 8, which is node 2^k, ends in it: there the places of 6 and 7 are apart
 abbrev pub fault_examples : List FaultExample
 fault_examples =
     record { F = plain_of 2; bytes = 0x02 ∷ 0x75 ∷ 0x8A ∷ 0x00 ∷ 0x01 ∷ []; number = 7; place = 4 }
@@ -119,6 +120,18 @@ fault_examples =
     ∷ record { F = full_of 1; bytes = 0x81 ∷ 0x64 ∷ 0x40 ∷ []; number = 6; place = 2 }
     ∷ record { F = full_of 1; bytes = 0x81 ∷ 0x64 ∷ 0x00 ∷ 0x00 ∷ 0x80 ∷ []; number = 7; place = 4 }
     ∷ record { F = full_of 1; bytes = 0x81 ∷ 0x64 ∷ 0x41 ∷ 0x01 ∷ []; number = 6; place = 2 }
+    ∷ record {
+      F = full_of 3;
+      bytes = 0x80 ∷ 0x1C ∷ 0x86 ∷ 0x69 ∷ 0x75 ∷ 0x55 ∷ 0x93 ∷ 0xC4 ∷ 0x95 ∷ 0x12 ∷ 0x40 ∷ 0x01 ∷ [];
+      number = 7;
+      place = 11;
+    }
+    ∷ record {
+      F = full_of 3;
+      bytes = 0x80 ∷ 0x1C ∷ 0x86 ∷ 0x69 ∷ 0x75 ∷ 0x55 ∷ 0x93 ∷ 0xC4 ∷ 0x95 ∷ 0x12 ∷ 0x40 ∷ 0x41 ∷ [];
+      number = 6;
+      place = 8;
+    }
     ∷ []
 
 abbrev pub FaultHolds : FaultExample → Type 0
