@@ -10,12 +10,13 @@ use Rattle.bools.proofs.Bools.{both}
 use Rattle.answers.specs.Refusal.{Refusal, Outcome, outcome, turned_back, served, some_applies}
 use Rattle.answers.specs.Answer.{number_of}
 use Rattle.answers.specs.declared.Refused.{Refused}
-use Rattle.answers.specs.declared.Refused.TheVariants.{Precision, Length, Node, FractionBits, Operand, Word, Tail}
+use Rattle.answers.specs.declared.Refused.TheVariants.{Precision, GuardBits, Length, Node, FractionBits, Operand, Word, Tail}
 use Rattle.answers.proofs.Order.{apart, numbered}
 
 -- no refusal has number 0
 pub has_number : (why : Refused) → number_of why ≡ 0 → ⊥
 has_number Precision e = apart 1 0 tt e
+has_number GuardBits e = apart 18 0 tt e
 has_number Length e = apart 2 0 tt e
 has_number Node e = apart 3 0 tt e
 has_number FractionBits e = apart 4 0 tt e

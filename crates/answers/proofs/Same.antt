@@ -8,15 +8,16 @@ use Rattle.std.proofs.Common.{Result, Ok, Err}
 use Rattle.answers.specs.Refusal.{Outcome}
 use Rattle.answers.specs.Answer.{number_of, place_of, refused, outcome_of}
 use Rattle.answers.specs.declared.Refused.{Refused}
-use Rattle.answers.specs.declared.Refused.TheVariants.{Precision, Length, Node, FractionBits, Operand, Word, Tail}
+use Rattle.answers.specs.declared.Refused.TheVariants.{Precision, GuardBits, Length, Node, FractionBits, Operand, Word, Tail}
 use Rattle.answers.proofs.Earlier.{has_number}
 
 -- a reason by its number and place
 abbrev reason_of : ℕ → ℕ → Refused
-reason_of n p = cond (eqb n 1) Precision (cond (eqb n 2) Length (cond (eqb n 3) Node (cond (eqb n 4) FractionBits (cond (eqb n 5) Operand (cond (eqb n 6) (Word p) (Tail p))))))
+reason_of n p = cond (eqb n 1) Precision (cond (eqb n 18) GuardBits (cond (eqb n 2) Length (cond (eqb n 3) Node (cond (eqb n 4) FractionBits (cond (eqb n 5) Operand (cond (eqb n 6) (Word p) (Tail p)))))))
 
 again : (why : Refused) → reason_of (number_of why) (place_of why) ≡ why
 again Precision = refl
+again GuardBits = refl
 again Length = refl
 again Node = refl
 again FractionBits = refl

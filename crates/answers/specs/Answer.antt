@@ -5,7 +5,7 @@ use Rattle.units.specs.declared.TableUnits.{TableUnits}
 use Rattle.units.specs.declared.Ulps.{Ulps}
 use Rattle.answers.specs.Refusal.{Outcome, served}
 use Rattle.answers.specs.declared.Refused.{Refused}
-use Rattle.answers.specs.declared.Refused.TheVariants.{Precision, Length, Node, FractionBits, Operand, Word, Tail}
+use Rattle.answers.specs.declared.Refused.TheVariants.{Precision, GuardBits, Length, Node, FractionBits, Operand, Word, Tail}
 use Rattle.answers.specs.declared.Done.{Done}
 use Rattle.answers.specs.declared.NodeRead.{NodeRead}
 use Rattle.answers.specs.declared.ReciprocalGiven.{ReciprocalGiven}
@@ -14,6 +14,7 @@ use Rattle.answers.specs.declared.Part.{Part}
 -- the number of a refusal
 abbrev pub number_of : Refused → ℕ
 number_of Precision = 1
+number_of GuardBits = 18
 number_of Length = 2
 number_of Node = 3
 number_of FractionBits = 4
@@ -24,6 +25,7 @@ number_of (Tail at) = 7
 -- its place: the node whose word is wrong, the byte with a one, and else 0
 abbrev pub place_of : Refused → ℕ
 place_of Precision = 0
+place_of GuardBits = 0
 place_of Length = 0
 place_of Node = 0
 place_of FractionBits = 0

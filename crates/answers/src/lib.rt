@@ -6,11 +6,13 @@ ghost use Rattle.answers.specs.Answer.{number_of, place_of, outcome_of_done, out
 
 use units::{TableUnits, Ulps};
 
-// Why a call is turned back: the refusals 1 to 7, in this order. Where a word or a byte is the reason, it is named.
+// Why a call is turned back: the refusals 1, 18 and 2 to 7, in this order. Where a word or a byte is the reason, it is named.
 #[derive(Clone, Copy, PartialEq, Eq, Debug)]
 pub enum Refused {
     // The precision is below 1 or above 12.
     Precision,
+    // The table guard bits are not 2 to 4, or the input guard bits not 3 to 5.
+    GuardBits,
     // The buffer is shorter than the image.
     Length,
     // The node number is above 2^k.
@@ -32,6 +34,7 @@ impl Refused {
     {
         match self {
             Refused::Precision => 1,
+            Refused::GuardBits => 18,
             Refused::Length => 2,
             Refused::Node => 3,
             Refused::FractionBits => 4,

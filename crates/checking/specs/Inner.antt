@@ -1,18 +1,17 @@
 -- What only inner promises cite: what is asked of the words that are checked, and the lowest of them that is wrong.
 -- Assumes nothing.
-use Rattle.std.specs.Prelude.{◌≡◌, ℕ, ◌+◌, ◌*◌, ◌^◌, ◌≤◌, ◌<◌, not, false, List, Option, Some, None, if◌then◌else◌, eqb, ltb}
+use Rattle.std.specs.Prelude.{◌≡◌, ℕ, ◌+◌, ◌^◌, ◌≤◌, ◌<◌, not, false, List, Option, Some, None, if◌then◌else◌, eqb, ltb}
 use Rattle.std.specs.Option.{is_none}
-use Rattle.packing.specs.Inner.{widest}
 use Rattle.layout.specs.Layout.{Layout, is_wrong, first_wrong}
 use Rattle.nodes.specs.Inner.{judged_word}
 use Rattle.nodes.specs.declared.Quotients.{Quotients}
 use Rattle.image.specs.Inner.{layout_of}
 
--- words, two or more, of 4 bits or more, of which two are read at once, and which are judged as the table's words
+-- words, two or more, of 4 to 30 bits, which are judged as the table's words
 pub record AreWords (t : Quotients) : Type 0 where
   pub some : 2 ≤ t.count
   pub wide : 4 ≤ t.width
-  pub two : 2 * t.width ≤ widest
+  pub narrow : t.width ≤ 30
   pub judges : (j word : ℕ) → j < t.count → word < 2 ^ t.width → is_none (judged_word t j word) ≡ not (eqb word ((layout_of t).word j))
 
 -- none of the first n words is wrong

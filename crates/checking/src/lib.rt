@@ -13,7 +13,8 @@ use answers::Refused;
 use format::{Form, Format};
 use nodes::Quotients;
 
-// The lowest wrong one of a pair of words, which are had in one reading, None where both are right.
+// The lowest wrong one of a pair of words, which are had in one reading, None where both are right. The first bit of a pair has an even place: so 58 bits lie
+// within 64 from the start of its byte on, and 60 do, as that place is then a multiple of 4.
 #[inline(always)]
 fn wrong_of_two(image: &[u8], table: Quotients, pair: u32) -> Option<u32>
     requires { AreWords table × (pair < table.count / 2) }
@@ -21,7 +22,8 @@ fn wrong_of_two(image: &[u8], table: Quotients, pair: u32) -> Option<u32>
 {
     let width = table.width;
     let j = 2 * pair;
-    let both = packing::field(image, (j as u64) * (width as u64), 2 * width);
+    let bit = (j as u64) * (width as u64);
+    let both = bits::high(packing::window(image, bit), 64 - 2 * width);
     if table.judged(j, bits::high(both, width) as u32).is_none() {
         return Some(j);
     }
@@ -115,7 +117,7 @@ fn by_words(format: Format, image: &[u8]) -> Result<(), Refused>
     ensures { outcome_of_done result ≡ check_outcome format image.now }
 {
     let table = image::table(format, image.len())?;
-    if let Some(j) = first_wrong(image::own_bytes(format, image), table) {
+    if let Some(j) = first_wrong(image::own_bytes(table, image), table) {
         return Err(Refused::Word(j));
     }
     let end = (table.count as u64) * (table.width as u64);
@@ -125,10 +127,13 @@ fn by_words(format: Format, image: &[u8]) -> Result<(), Refused>
     Ok(())
 }
 
-// The same for each form by code of its own, in which the compiler knows it.
+// The same for each form with the usual guard bits by code of its own, in which the compiler knows all but the precision.
 pub fn check(format: Format, image: &[u8]) -> Result<(), Refused>
     ensures { outcome_of_done result ≡ check_outcome format image.now }
 {
+    if !format.guard_bits.are_usual() {
+        return by_words(format, image);
+    }
     match format.form {
         Form::Plain => by_words(Format::plain(format.precision), image),
         Form::Full => by_words(Format::full(format.precision), image),

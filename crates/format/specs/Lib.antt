@@ -1,1 +1,2 @@
+pub mod GuardBits
 pub mod Format

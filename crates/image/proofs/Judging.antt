@@ -9,7 +9,7 @@ use native.Mathlib.Omega.{arith}
 use lib.Dec.{ltb}
 use borrow.Author.Tests.{lt-ltb, le-ltb, ltb-true, ltb-false}
 use Rattle.std.proofs.Common.{Some, None}
-use Rattle.format.specs.Format.{precision_of, word_width, word_count}
+use Rattle.format.specs.Format.{precision_of, table_bits, word_width, word_count}
 use Rattle.format.specs.declared.Format.{Format}
 use Rattle.format.proofs.Laws.{count_most}
 use Rattle.quotient.specs.Inner.{rounds_up}
@@ -35,32 +35,35 @@ module _ (F : Format) (s : List ℕ) (j : ℕ) (h : j < word_count F) where
   abbrev k : ℕ
   k = precision_of F
 
+  abbrev a : ℕ
+  a = table_bits F
+
   -- the test of what it stands for, whose result is v, tells whether it is wrong
-  pub word_tells : {v : Bool} → v ≡ rounds_up (numerator k) (2 ^ k + j) (decode_under (lead_in F.form k) j (word_of F s j)) → is_wrong (table_of F) s j ≡ not v
-  word_tells e = ap not (sym (e ∙ judged k j (word_of F s j) F.form h (word_lt (word_width F) s j)))
+  pub word_tells : {v : Bool} → v ≡ rounds_up (numerator k a) (2 ^ k + j) (decode_under (lead_in F.form k a) j (word_of F s j)) → is_wrong (table_of F) s j ≡ not v
+  word_tells e = ap not (sym (e ∙ judged k a j (word_of F s j) F.form h (word_lt (word_width F) s j)))
 
   pub refusal_tells : (word_refusal (table_of F) s j).applies ≡ is_wrong (table_of F) s j
   refusal_tells = rw (lt-ltb j (word_count F) h)
 
   -- and it is what reading gives
-  pub word_value : decode_under (lead_in F.form k) j (word_of F s j) ≡ node_of F s j
-  word_value = sym (decoded_under k j (word_of F s j) F.form h)
+  pub word_value : decode_under (lead_in F.form k a) j (word_of F s j) ≡ node_of F s j
+  word_value = sym (decoded_under k a j (word_of F s j) F.form h)
 
   -- so what code gives for it is that, and none where the word is wrong
-  pub word_given : k ≤ 12 → judged_word (quotients_of F) j (word_of F s j) ≡ cond (is_wrong (table_of F) s j) None (Some (record { 0 = node_of F s j }))
-  word_given high =
+  pub word_given : k ≤ 12 → a ≤ 4 → judged_word (quotients_of F) j (word_of F s j) ≡ cond (is_wrong (table_of F) s j) None (Some (record { 0 = node_of F s j }))
+  word_given high guard =
       let narrow = word_lt (word_width F) s j in
-      judged_is F high j (word_of F s j) (omega (arith, h, count_most F.form k)) narrow
-      ∙ turned _ _ (rounds_up (numerator k) (2 ^ k + j) (stands_for F j (word_of F s j))) (is_wrong (table_of F) s j) (word_tells refl)
+      judged_is F high guard j (word_of F s j) (omega (arith, h, count_most F.form k)) narrow
+      ∙ turned _ _ (rounds_up (numerator k a) (2 ^ k + j) (stands_for F j (word_of F s j))) (is_wrong (table_of F) s j) (word_tells refl)
       ∙ ap (λ (c : ℕ). cond (is_wrong (table_of F) s j) None (Some (record { 0 = c }))) word_value
 
 -- a word that is read and not wrong stands for the node; a node that has none is the last one, and is the node in any case
-pub right_node : (F : Format) (s : List ℕ) (j : ℕ) → j ≤ 2 ^ precision_of F → (word_refusal (table_of F) s j).applies ≡ false → node_of F s j ≡ node (precision_of F) j
+pub right_node : (F : Format) (s : List ℕ) (j : ℕ) → j ≤ 2 ^ precision_of F → (word_refusal (table_of F) s j).applies ≡ false → node_of F s j ≡ node (precision_of F) (table_bits F) j
 right_node F s j h = by (ltb j (word_count F)) refl
   where
-    by : (b : Bool) → ltb j (word_count F) ≡ b → (b && is_wrong (table_of F) s j) ≡ false → node_of F s j ≡ node (precision_of F) j
-    by true below right = decoded_right (precision_of F) j (word_of F s j) F.form (ltb-true j (word_count F) below) (not_wrong (table_of F) s j right)
-    by false past right = decoded_last (precision_of F) j (word_of F s j) F.form (ltb-false j (word_count F) past) h
+    by : (b : Bool) → ltb j (word_count F) ≡ b → (b && is_wrong (table_of F) s j) ≡ false → node_of F s j ≡ node (precision_of F) (table_bits F) j
+    by true below right = decoded_right (precision_of F) (table_bits F) j (word_of F s j) F.form (ltb-true j (word_count F) below) (not_wrong (table_of F) s j right)
+    by false past right = decoded_last (precision_of F) (table_bits F) j (word_of F s j) F.form (ltb-false j (word_count F) past) h
 
 -- a node that has no word never gives 6
 pub last_passes : (F : Format) (s : List ℕ) (j : ℕ) → word_count F ≤ j → (word_refusal (table_of F) s j).applies ≡ false

@@ -1,12 +1,13 @@
--- The tables of the formats: their words have their width, and plain ones fill whole bytes. The words that the code makes and judges are the table's.
+-- The tables of the formats: their words have their width, and plain ones with two table guard bits fill whole bytes. The words that the code makes and judges are the table's.
 -- Assumes nothing.
 use mathlib.Core.Path.{◌≡◌, refl, ap, fun_ext}
 use Prim.Native.Nat.{ℕ, zero, suc, ◌+◌, ◌*◌, ◌/◌, ◌^◌, ◌≤◌}
 use native.Mathlib.Nat.{not-suc-le-zero, pow-suc}
 use native.Mathlib.Omega.{arith}
 use Rattle.precision.specs.Precision as precisions
-use Rattle.format.specs.Format.{precision_of, plain_of, word_count, word_width}
+use Rattle.format.specs.Format.{precision_of, table_bits, plain_of, word_count, word_width}
 use Rattle.format.specs.declared.Format.{Format}
+use Rattle.format.proofs.Range.{InRange}
 use Rattle.format.proofs.Laws.{width_least}
 use Rattle.nodes.specs.Inner.{quotients_of}
 use Rattle.nodes.proofs.Forms.{stored_lt, stored_low}
@@ -15,17 +16,17 @@ use Rattle.layout.proofs.Laws.{Fits, Whole}
 use Rattle.image.specs.Image.{table_of}
 use Rattle.image.specs.Inner.{layout_of}
 
--- a stored word has the width of a word
-pub table_fits : (F : Format) → Fits (table_of F)
-table_fits F =
-    record {
-      one = omega (arith, width_least F.form (precision_of F));
-      words = λ j h. stored_lt F.form (precision_of F) j;
-    }
+-- a stored word has the width of a word, where that has bits
+pub table_fits : (F : Format) → 1 ≤ word_width F → Fits (table_of F)
+table_fits F some = record { one = some; words = λ j h. stored_lt F.form (precision_of F) (table_bits F) j }
+
+-- as it has with guard bits in range
+pub has_bits : (F : Format) → InRange F.guard_bits → 1 ≤ word_width F
+has_bits F guard = omega (arith, guard.table_least, width_least F.form (precision_of F) (table_bits F))
 
 -- the lowest bits of the quotients are the words
 pub own_layout : (F : Format) → layout_of (quotients_of F) ≡ table_of F
-own_layout F = ap with_words (fun_ext (stored_low F.form (precision_of F)))
+own_layout F = ap with_words (fun_ext (stored_low F.form (precision_of F) (table_bits F)))
   where
     with_words : (ℕ → ℕ) → Layout
     with_words f = record { count = word_count F; width = word_width F; word = f }

@@ -3,4 +3,5 @@ pub mod Judging
 pub mod Laws
 pub mod Limits
 pub mod OwnBytes
+pub mod Reading
 pub mod Shown

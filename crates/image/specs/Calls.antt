@@ -10,7 +10,7 @@ use Rattle.layout.specs.Refusals.{image_refusal, word_refusal, tail_refusal}
 use Rattle.image.specs.Image.{table_of, node_of}
 use Rattle.image.specs.Refusals.{node_refusal, limits}
 
--- the refusals of the builder, in checking order: 1 and 2
+-- the refusals of the builder, in checking order: 1, 18 and 2
 abbrev pub build_refusals : Format → List ℕ → List Refusal
 build_refusals F s = limits F (length s)
 
@@ -22,7 +22,7 @@ build_outcome F s = outcome (build_refusals F s) 0
 abbrev pub build_leaves : Format → List ℕ → List ℕ
 build_leaves F s = cond (eqb (build_outcome F s).number 0) (rom_of (table_of F) (length s)) s
 
--- the refusals of the check, in checking order: 1, 2, 6 and 7
+-- the refusals of the check, in checking order: 1, 18, 2, 6 and 7
 abbrev pub check_refusals : Format → List ℕ → List Refusal
 check_refusals F s = limits F (length s) ++ image_refusal (table_of F) s ∷ tail_refusal (table_of F) s ∷ []
 
@@ -30,7 +30,7 @@ check_refusals F s = limits F (length s) ++ image_refusal (table_of F) s ∷ tai
 abbrev pub check_outcome : Format → List ℕ → Outcome
 check_outcome F s = outcome (check_refusals F s) 0
 
--- the refusals of reading node j, in checking order: 1, 2, 3 and 6; a plain table has no word of node 2^k, which never gives 6
+-- the refusals of reading node j, in checking order: 1, 18, 2, 3 and 6; a plain table has no word of node 2^k, which never gives 6
 abbrev pub node_refusals : Format → List ℕ → ℕ → List Refusal
 node_refusals F s j = limits F (length s) ++ node_refusal (precision_of F) j ∷ word_refusal (table_of F) s j ∷ []
 
@@ -38,7 +38,7 @@ node_refusals F s j = limits F (length s) ++ node_refusal (precision_of F) j ∷
 abbrev pub node_outcome : Format → List ℕ → ℕ → Outcome
 node_outcome F s j = outcome (node_refusals F s j) (node_of F s j)
 
--- no bytes are shown: 1 or 2 applies or node j has no word; j is then above 2^k - 1 in plain words, above 2^k in full ones
+-- no bytes are shown: 1, 18 or 2 applies or node j has no word; j is then above 2^k - 1 in plain words, above 2^k in full ones
 abbrev pub is_hidden : Format → List ℕ → ℕ → Bool
 is_hidden F s j = some_applies (limits F (length s)) || not (ltb j (word_count F))
 

@@ -1,5 +1,5 @@
 -- The one-ulp bound of operands, by powers of two: for every table of nodes that keeps its laws, with a table and b input guard bits; for
--- the nodes rounded up, from a = 2 and b = 3 on; and for R of document 01 at every k and n.
+-- the nodes rounded up, from a = 2 and b = 3 on; and so for R at every k and n.
 -- Assumes nothing.
 use mathlib.Core.Path.{◌≡◌, sym, ap, subst}
 use Prim.Native.Nat.{ℕ, ◌+◌, ◌-◌, ◌*◌, ◌/◌, ◌%◌, ◌^◌, ◌≤◌, ◌<◌}
@@ -95,10 +95,10 @@ rounded-up a b k units steps =
     (sym (powers.numerator k a b))
     (keeps (2 ^ a) (2 ^ b) (2 ^ k) (pow_mono units) (pow_mono steps) (pow_pos k))
 
--- at two table and three input guard bits: R of every k
-module _ (k n X : ℕ) (least : 2 ^ n ≤ X) (below : X < 2 ^ (n + 1)) where
-  pub reciprocal_high : reciprocal k n X * X < 2 ^ (n + 2 * k + 1) + X
-  reciprocal_high = operand_high 2 3 k (rounded-up 2 3 k (omega arith) (omega arith)) n X least below
+-- from a = 2 and b = 3 on: R of every k
+module _ (k a b : ℕ) (units : 2 ≤ a) (steps : 3 ≤ b) (n X : ℕ) (least : 2 ^ n ≤ X) (below : X < 2 ^ (n + 1)) where
+  pub reciprocal_high : reciprocal k a b n X * X < 2 ^ (n + 2 * k + 1) + X
+  reciprocal_high = operand_high a b k (rounded-up a b k units steps) n X least below
 
-  pub reciprocal_low : 2 ^ (n + 2 * k + 1) < reciprocal k n X * X + X
-  reciprocal_low = operand_low 2 3 k (rounded-up 2 3 k (omega arith) (omega arith)) n X least below
+  pub reciprocal_low : 2 ^ (n + 2 * k + 1) < reciprocal k a b n X * X + X
+  reciprocal_low = operand_low a b k (rounded-up a b k units steps) n X least below

@@ -6,4 +6,3 @@ pub mod Powers
 pub mod Bound
 pub mod Cut
 pub mod Answers
-pub mod BothWords

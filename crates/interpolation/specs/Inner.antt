@@ -6,9 +6,9 @@ use Rattle.answers.specs.Refusal.{Outcome, outcome}
 use Rattle.interpolation.specs.Reciprocal.{read_reciprocal}
 use Rattle.interpolation.specs.Calls.{cut_refusals}
 
--- t, by its 2k + 3 fraction bits as one number: its leading one stands before them
-abbrev pub cut_of : ℕ → ℕ → ℕ
-cut_of k bits = 2 ^ (2 * k + 3) + bits
+-- t, by its 2k + b fraction bits as one number: its leading one stands before them
+abbrev pub cut_of : ℕ → ℕ → ℕ → ℕ
+cut_of k b bits = 2 ^ (2 * k + b) + bits
 
 -- what a cut operand t is answered with, where format and buffer keep their limits
 abbrev pub cut_outcome : Format → List ℕ → ℕ → Outcome

@@ -3,7 +3,8 @@
 
 ghost use Rattle.std.specs.Prelude.{◌≡◌, ◌+◌, ◌/◌, ◌%◌, ◌^◌};
 ghost use Rattle.answers.specs.Answer.{outcome_of_reciprocal};
-ghost use Rattle.format.specs.Format.{precision_of, plain_of};
+ghost use Rattle.format.specs.Format.{usual, plain_of};
+ghost use Rattle.nodes.specs.Inner.{quotients_of};
 ghost use Rattle.interpolation.specs.Algorithm.{sum_over};
 ghost use Rattle.interpolation.specs.Calls.{reciprocal_outcome};
 ghost use Rattle.interpolation.specs.Inner.{cut_of, cut_outcome};
@@ -11,6 +12,7 @@ ghost use Rattle.inverting.specs.Inner.{IsCut, IsPiece, IsPieceOf, both_in, ends
 
 use answers::Refused;
 use format::{Form, Format};
+use nodes::Quotients;
 use operand::Operand;
 use precision::Precision;
 use units::{TableUnits, Ulps};
@@ -30,14 +32,14 @@ fn interpolated(
     Ulps(bits::high(sum, chopped_bits))
 }
 
-// The reciprocal of a cut operand by the words of both ends of its piece, which begins at node j; they stand at the top of the window, and are judged,
+// The reciprocal of a cut operand, with the usual guard bits, by the words of both ends of its piece, which begins at node j; they stand at the top of the window, and are judged,
 // the lower end first. Of the kept fraction bits the last k + 3 are looked at, which are f.
 #[inline(always)]
-fn by_ends(format: Format, j: u32, window: u64, kept: u64) -> Result<Ulps, Refused>
-    requires { IsPieceOf (precision_of format) j }
-    ensures { outcome_of_reciprocal result ≡ ends_outcome format (both_in format window) j (kept % 2 ^ (precision_of format + 3)) }
+fn by_ends(form: Form, k: Precision, j: u32, window: u64, kept: u64) -> Result<Ulps, Refused>
+    requires { IsPieceOf k.0 j }
+    ensures { outcome_of_reciprocal result ≡ ends_outcome (usual form k.0) (both_in (usual form k.0) window) j (kept % 2 ^ (k.0 + 3)) }
 {
-    let table = nodes::table(format).ok_or(Refused::Precision)?;
+    let table = nodes::table(Format::usual(form, k)).ok_or(Refused::Precision)?;
     let both = bits::high(window, 64 - 2 * table.width);
     let Some(lower) = table.judged(j, bits::high(both, table.width) as u32) else {
         return Err(Refused::Word(j));
@@ -45,14 +47,13 @@ fn by_ends(format: Format, j: u32, window: u64, kept: u64) -> Result<Ulps, Refus
     let Some(upper) = table.judged(j + 1, bits::low(both, table.width) as u32) else {
         return Err(Refused::Word(j + 1));
     };
-    let k = format.precision.0;
-    let fraction_bits = k + 3;
+    let fraction_bits = k.0 + 3;
     Ok(interpolated(
         lower,
         upper,
         bits::low(kept, fraction_bits),
         fraction_bits,
-        k + 5,
+        k.0 + 5,
     ))
 }
 
@@ -63,63 +64,105 @@ fn by_precision(k: Precision, j: u32, window: u64, kept: u64) -> Result<Ulps, Re
     ensures { outcome_of_reciprocal result ≡ ends_outcome (plain_of k.0) (both_in (plain_of k.0) window) j (kept % 2 ^ (k.0 + 3)) }
 {
     match k.0 {
-        1 => by_ends(Format::plain(Precision(1)), j, window, kept),
-        2 => by_ends(Format::plain(Precision(2)), j, window, kept),
-        3 => by_ends(Format::plain(Precision(3)), j, window, kept),
-        4 => by_ends(Format::plain(Precision(4)), j, window, kept),
-        5 => by_ends(Format::plain(Precision(5)), j, window, kept),
-        6 => by_ends(Format::plain(Precision(6)), j, window, kept),
-        7 => by_ends(Format::plain(Precision(7)), j, window, kept),
-        8 => by_ends(Format::plain(Precision(8)), j, window, kept),
-        9 => by_ends(Format::plain(Precision(9)), j, window, kept),
-        10 => by_ends(Format::plain(Precision(10)), j, window, kept),
-        11 => by_ends(Format::plain(Precision(11)), j, window, kept),
-        12 => by_ends(Format::plain(Precision(12)), j, window, kept),
-        _ => by_ends(Format::plain(k), j, window, kept),
+        1 => by_ends(Form::Plain, Precision(1), j, window, kept),
+        2 => by_ends(Form::Plain, Precision(2), j, window, kept),
+        3 => by_ends(Form::Plain, Precision(3), j, window, kept),
+        4 => by_ends(Form::Plain, Precision(4), j, window, kept),
+        5 => by_ends(Form::Plain, Precision(5), j, window, kept),
+        6 => by_ends(Form::Plain, Precision(6), j, window, kept),
+        7 => by_ends(Form::Plain, Precision(7), j, window, kept),
+        8 => by_ends(Form::Plain, Precision(8), j, window, kept),
+        9 => by_ends(Form::Plain, Precision(9), j, window, kept),
+        10 => by_ends(Form::Plain, Precision(10), j, window, kept),
+        11 => by_ends(Form::Plain, Precision(11), j, window, kept),
+        12 => by_ends(Form::Plain, Precision(12), j, window, kept),
+        _ => by_ends(Form::Plain, k, j, window, kept),
     }
 }
 
 // The same in each form: full words have one code for all precisions.
-fn by_form(format: Format, j: u32, window: u64, kept: u64) -> Result<Ulps, Refused>
-    requires { IsPieceOf (precision_of format) j }
-    ensures { outcome_of_reciprocal result ≡ ends_outcome format (both_in format window) j (kept % 2 ^ (precision_of format + 3)) }
+#[inline(always)]
+fn by_form(form: Form, k: Precision, j: u32, window: u64, kept: u64) -> Result<Ulps, Refused>
+    requires { IsPieceOf k.0 j }
+    ensures { outcome_of_reciprocal result ≡ ends_outcome (usual form k.0) (both_in (usual form k.0) window) j (kept % 2 ^ (k.0 + 3)) }
 {
-    match format.form {
-        Form::Plain => by_precision(format.precision, j, window, kept),
-        Form::Full => by_ends(format, j, window, kept),
+    match form {
+        Form::Plain => by_precision(k, j, window, kept),
+        Form::Full => by_ends(Form::Full, k, j, window, kept),
     }
 }
 
-// The reciprocal of the cut operand of which these 2k + 3 fraction bits were kept, where format and image keep their limits; the first k of them are j.
-// The words at both ends of its piece are had in one reading. Plain words have none of node 2^k: behind the last of them zero bits are read, which are
+// The reciprocal of the cut operand of which these 2k + 3 fraction bits were kept, where precision and image keep their limits; the first k of them are j.
+// The words at both ends of its piece are had in one reading. Plain words have none of node 2^k: behind the last of them, which fill their bytes, zero bits are read, which are
 // judged to be that node.
 #[inline(always)]
-fn of_cut(format: Format, image: &[u8], kept: u64) -> Result<Ulps, Refused>
-    requires { IsCut format image.now kept }
-    ensures { outcome_of_reciprocal result ≡ cut_outcome format image.now (cut_of (precision_of format) kept) }
+fn of_cut(
+    form: Form,
+    k: Precision,
+    table: Quotients,
+    image: &[u8],
+    kept: u64,
+) -> Result<Ulps, Refused>
+    requires cut { IsCut form k.0 image.now kept }
+    requires numbers { table ≡ quotients_of (usual form k.0) }
+    ensures { outcome_of_reciprocal result ≡ cut_outcome (usual form k.0) image.now (cut_of k.0 3 kept) }
 {
-    let width = format.word_width();
-    let j = bits::high(kept, format.precision.0 + 3) as u32;
-    let window = packing::window(image::own_bytes(format, image), (j as u64) * width);
-    by_form(format, j, window, kept)
+    let j = bits::high(kept, k.0 + 3) as u32;
+    let bit = (j as u64) * (table.width as u64);
+    let window = packing::window(image::own_bytes(table, image), bit);
+    by_form(form, k, j, window, kept)
 }
 
-// The reciprocal of an operand: its first 2k + 3 fraction bits decide, zeros where it has fewer.
+// The reciprocal of an operand by a table with the usual guard bits: its first 2k + 3 fraction bits decide, zeros where it has fewer.
 #[inline(always)]
-fn of_operand(format: Format, image: &[u8], operand: Operand) -> Result<Ulps, Refused>
+fn of_operand(form: Form, k: Precision, image: &[u8], operand: Operand) -> Result<Ulps, Refused>
+    ensures { outcome_of_reciprocal result ≡ reciprocal_outcome (usual form k.0) image.now operand.n operand.x }
+{
+    let table = image::table(Format::usual(form, k), image.len())?;
+    operand.limits()?;
+    of_cut(form, k, table, image, operand.cut(2 * k.0 + 3))
+}
+
+// The reciprocal of an operand by any table: one code for all guard bits and precisions, of which each form has its own copy. Both words are read by themselves, since two full words can have
+// 60 bits, and what stands behind the last plain word can be filling bits.
+#[inline(always)]
+fn by_nodes(format: Format, image: &[u8], operand: Operand) -> Result<Ulps, Refused>
     ensures { outcome_of_reciprocal result ≡ reciprocal_outcome format image.now operand.n operand.x }
 {
-    image::table(format, image.len())?;
+    let table = image::table(format, image.len())?;
     operand.limits()?;
-    of_cut(format, image, operand.cut(2 * format.precision.0 + 3))
+    let k = format.precision.0;
+    let fraction_bits = k + format.guard_bits.input;
+    let kept = operand.cut(k + fraction_bits);
+    let own = image::own_bytes(table, image);
+    let j = bits::high(kept, fraction_bits) as u32;
+    let Some(lower) = image::node(table, own, j) else {
+        return Err(Refused::Word(j));
+    };
+    let Some(upper) = image::node(table, own, j + 1) else {
+        return Err(Refused::Word(j + 1));
+    };
+    Ok(interpolated(
+        lower,
+        upper,
+        bits::low(kept, fraction_bits),
+        fraction_bits,
+        fraction_bits + format.guard_bits.table,
+    ))
 }
 
-// The same for each form by code of its own, in which the compiler knows it.
+// The reciprocal of an operand. Each form has code of its own, in which the compiler knows it, and with the usual guard bits knows these too.
 pub fn reciprocal(format: Format, image: &[u8], operand: Operand) -> Result<Ulps, Refused>
     ensures { outcome_of_reciprocal result ≡ reciprocal_outcome format image.now operand.n operand.x }
 {
+    if format.guard_bits.are_usual() {
+        return match format.form {
+            Form::Plain => of_operand(Form::Plain, format.precision, image, operand),
+            Form::Full => of_operand(Form::Full, format.precision, image, operand),
+        };
+    }
     match format.form {
-        Form::Plain => of_operand(Format::plain(format.precision), image, operand),
-        Form::Full => of_operand(Format::full(format.precision), image, operand),
+        Form::Plain => by_nodes(format.in_form(Form::Plain), image, operand),
+        Form::Full => by_nodes(format.in_form(Form::Full), image, operand),
     }
 }

@@ -1,7 +1,7 @@
 -- The powers of two of a table with a guard bits, as products of 2^k and of the leading one 2^(2k+a).
 -- Assumes nothing.
 use mathlib.Core.Path.{◌≡◌, sym, ap, ◌∙◌}
-use Prim.Native.Nat.{ℕ, ◌+◌, ◌*◌, ◌^◌, ◌≤◌, ◌<◌}
+use Prim.Native.Nat.{ℕ, zero, suc, ◌+◌, ◌*◌, ◌^◌, ◌≤◌, ◌<◌}
 use native.Mathlib.Omega.{arith}
 use lib.Pow.{pow-add, pow_pos, pow_mono, pow-lt}
 use Rattle.nodes.proofs.Laws.{Shape}
@@ -17,11 +17,12 @@ numerator k a =
     ∙ pow-add 2 (2 * k + a + 1) k
     ∙ ap (λ (x : ℕ). x * 2 ^ k) (double (2 * k + a))
 
--- the leading one is at least twice the number of words
-pub shape : (k a : ℕ) → 1 ≤ a → Shape (2 ^ (2 * k + a)) (2 ^ k)
-shape k a h =
-    let l : k + 1 ≤ 2 * k + a = omega arith in
-    record { some = pow_pos k; wide = omega (arith, double k, pow_mono l) }
+-- the leading one is at least twice the number of words, or one and one
+pub shape : (k a : ℕ) → Shape (2 ^ (2 * k + a)) (2 ^ k)
+shape zero a = record { some = pow_pos 0; wide = omega (arith, pow_pos (2 * 0 + a)) }
+shape (suc q) a =
+    let l : suc q + 1 ≤ 2 * suc q + a = omega arith in
+    record { some = pow_pos (suc q); wide = omega (arith, double (suc q), pow_mono l) }
 
 -- the bound of the difference of neighbours, times the number of words, is twice the leading one
 pub step : (k a : ℕ) → 2 ^ (k + (a + 1)) * 2 ^ k ≡ 2 * 2 ^ (2 * k + a)

@@ -2,8 +2,7 @@
 -- Assumes nothing.
 use Rattle.std.specs.Prelude.{ℕ, ◌+◌, ◌%◌, ◌^◌, cond, Option, Some, None}
 use Rattle.units.specs.declared.TableUnits.{TableUnits}
-use Rattle.precision.specs.Precision.{in_range}
-use Rattle.format.specs.Format.{precision_of, word_width, word_count}
+use Rattle.format.specs.Format.{precision_of, table_bits, word_width, word_count, is_offered}
 use Rattle.format.specs.declared.Form.{Form}
 use Rattle.format.specs.declared.Form.TheVariants.{Plain, Full}
 use Rattle.format.specs.declared.Format.{Format}
@@ -12,19 +11,20 @@ use Rattle.nodes.specs.Nodes.{numerator, leading_one, decode_under}
 use Rattle.nodes.specs.declared.Quotients.{Quotients}
 
 -- the leading one that words leave out in a form; none, 0, where they hold it
-abbrev pub lead_in : Form → ℕ → ℕ
-lead_in Plain k = leading_one k
-lead_in Full k = 0
+abbrev pub lead_in : Form → ℕ → ℕ → ℕ
+lead_in Plain k a = leading_one k a
+lead_in Full k a = 0
 
 -- those of a format
 abbrev pub quotients_of : Format → Quotients
 quotients_of F =
     let k = precision_of F in
-    record { count = word_count F; width = word_width F; numerator = numerator k; first = 2 ^ k; lead = lead_in F.form k }
+    let a = table_bits F in
+    record { count = word_count F; width = word_width F; numerator = numerator k a; first = 2 ^ k; lead = lead_in F.form k a }
 
--- the same, where its precision is one
+-- the same, where there is such a table
 abbrev pub quotients_there : Format → Option Quotients
-quotients_there F = cond (in_range (precision_of F)) (Some (quotients_of F)) None
+quotients_there F = cond (is_offered F) (Some (quotients_of F)) None
 
 -- what the word at node j of a table stands for, where a product tells that it is the quotient rounded up; of the divisor and of the value the lowest
 -- 32 bits count

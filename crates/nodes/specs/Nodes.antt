@@ -1,5 +1,5 @@
 -- The nodes, their words and how a word is decoded (document 01, "Construction of the nodes" and "The image";
--- document 002, Algorithm 1; document 02, Q-7).
+-- document 002, Algorithm 1; document 02, Q-7 and Q-14), of precision k with a table guard bits.
 -- Assumes nothing.
 use Rattle.std.specs.Prelude.{ℕ, ◌+◌, ◌*◌, ◌%◌, ◌^◌, cond, ◌&&◌, Option, Some, None, leb, eqb}
 use Rattle.units.specs.declared.TableUnits.{TableUnits}
@@ -9,44 +9,44 @@ use Rattle.format.specs.declared.Form.TheVariants.{Plain, Full}
 use Rattle.quotient.specs.Quotient.{rounded_up}
 
 -- what is divided to give a node
-abbrev pub numerator : ℕ → ℕ
-numerator k = 2 ^ (3 * k + 3)
+abbrev pub numerator : ℕ → ℕ → ℕ
+numerator k a = 2 ^ (3 * k + (a + 1))
 
--- c(j), in table units: 2^(3k+3) / i rounded up to a whole number, with i = 2^k + j
-abbrev pub node : ℕ → ℕ → ℕ
-node k j = rounded_up (numerator k) (2 ^ k + j)
+-- c(j), in table units: 2^(3k+a+1) / i rounded up to a whole number, with i = 2^k + j
+abbrev pub node : ℕ → ℕ → ℕ → ℕ
+node k a j = rounded_up (numerator k a) (2 ^ k + j)
 
--- the leading one that a plain word leaves out: 2^w, with w = 2k + 2
-abbrev pub leading_one : ℕ → ℕ
-leading_one k = 2 ^ word_width k
+-- the leading one that a plain word leaves out: 2^w, with w = 2k + a
+abbrev pub leading_one : ℕ → ℕ → ℕ
+leading_one k a = 2 ^ word_width k a
 
--- the plain word that is stored for node j: c(j) modulo 2^(2k+2)
-abbrev pub stored_word : ℕ → ℕ → ℕ
-stored_word k j = node k j % leading_one k
+-- the plain word that is stored for node j: c(j) modulo 2^(2k+a)
+abbrev pub stored_word : ℕ → ℕ → ℕ → ℕ
+stored_word k a j = node k a j % leading_one k a
 
 -- the value that a word stands for at node j under a leading one that is not stored, to which the word is added; but a zero word at node 0
 -- means twice the leading one
 abbrev pub decode_under : ℕ → ℕ → ℕ → ℕ
 decode_under lead j word = cond (eqb j 0 && eqb word 0) (2 * lead) (lead + word)
 
--- the value of node j by its plain word; the last node has none, and its value is implied whatever word is given: 2^(2k+2)
-abbrev pub decode : ℕ → ℕ → ℕ → ℕ
-decode k j word = cond (eqb j (last_node k)) (leading_one k) (decode_under (leading_one k) j word)
+-- the value of node j by its plain word; the last node has none, and its value is implied whatever word is given: 2^(2k+a)
+abbrev pub decode : ℕ → ℕ → ℕ → ℕ → ℕ
+decode k a j word = cond (eqb j (last_node k)) (leading_one k a) (decode_under (leading_one k a) j word)
 
 -- the word that is stored for node j in a form: the plain one, or c(j) itself
-abbrev pub stored_in : Form → ℕ → ℕ → ℕ
-stored_in Plain k j = stored_word k j
-stored_in Full k j = node k j
+abbrev pub stored_in : Form → ℕ → ℕ → ℕ → ℕ
+stored_in Plain k a j = stored_word k a j
+stored_in Full k a j = node k a j
 
 -- the value of node j by its word in a form: a full word is the value
-abbrev pub decode_in : Form → ℕ → ℕ → ℕ → ℕ
-decode_in Plain k j word = decode k j word
-decode_in Full k j word = word
+abbrev pub decode_in : Form → ℕ → ℕ → ℕ → ℕ → ℕ
+decode_in Plain k a j word = decode k a j word
+decode_in Full k a j word = word
 
--- c(j), where k is a precision and j is from 0 to 2^k
+-- c(j) with two table guard bits, as the constant list and the printed table have it, where k is a precision and j is from 0 to 2^k
 abbrev pub node_in_table : ℕ → ℕ → Option TableUnits
-node_in_table k j = cond (in_range k && leb j (last_node k)) (Some (record { 0 = node k j })) None
+node_in_table k j = cond (in_range k && leb j (last_node k)) (Some (record { 0 = node k 2 j })) None
 
 -- the same as a number, and elsewhere 0, which no node is
 abbrev pub node_or_0 : ℕ → ℕ → ℕ
-node_or_0 k j = cond (in_range k && leb j (last_node k)) (node k j) 0
+node_or_0 k j = cond (in_range k && leb j (last_node k)) (node k 2 j) 0

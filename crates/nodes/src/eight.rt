@@ -1,10 +1,10 @@
-// The nodes of precision 8, as a table.
+// The nodes of precision 8 with two table guard bits, as a table.
 ghost use Rattle.std.specs.Prelude.{◌≡◌};
 ghost use Rattle.nodes.specs.Nodes.{node_in_table};
 
 use units::TableUnits;
 
-// c(0) to c(256) at precision 8, in table units: the product holds them as a constant table.
+// c(0) to c(256) at precision 8 with two table guard bits, in table units: the product holds them as a constant table.
 pub const NODES_8: [u32; 257] = [
     524288, 522248, 520224, 518216, 516223, 514245, 512282, 510334, 508401, 506482, 504578, 502689,
     500813, 498951, 497103, 495269, 493448, 491641, 489846, 488065, 486297, 484541, 482798, 481068,
@@ -30,7 +30,7 @@ pub const NODES_8: [u32; 257] = [
     264209, 263690, 263173, 262658, 262144,
 ];
 
-// Node j at precision 8, None where j is above 256.
+// Node j at precision 8 with two table guard bits, None where j is above 256.
 pub fn node_8(j: u32) -> Option<TableUnits>
     ensures { result ≡ node_in_table 8 j }
 {

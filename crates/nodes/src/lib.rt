@@ -43,24 +43,29 @@ impl Quotients {
     }
 }
 
-// The numbers of the table of a format, None where its precision is none.
+// The numbers of the table of a format, None where there is no such table. What `Format` says of width and count of its words stands here once more, in the
+// arms: asked for there, the code of a node came out a tenth longer (tried).
 pub fn table(format: Format) -> Option<Quotients>
     ensures { result ≡ quotients_there format }
 {
+    if !format.is_offered() {
+        return None;
+    }
     let k = format.precision.0;
-    let first = format.precision.word_count()?;
-    let numerator = bits::power(3 * k + 3);
+    let plain = 2 * k + format.guard_bits.table;
+    let first = 1 << k;
+    let numerator = bits::power(3 * k + format.guard_bits.table + 1);
     Some(match format.form {
         Form::Plain => Quotients {
             count: first,
-            width: 2 * k + 2,
+            width: plain,
             numerator,
             first,
-            lead: 1 << (2 * k + 2),
+            lead: 1 << plain,
         },
         Form::Full => Quotients {
             count: first + 1,
-            width: 2 * k + 4,
+            width: plain + 2,
             numerator,
             first,
             lead: 0,
@@ -68,7 +73,7 @@ pub fn table(format: Format) -> Option<Quotients>
     })
 }
 
-// c(j) at precision k, None where there is no such node.
+// c(j) at precision k with two table guard bits, None where there is no such node.
 pub fn value(k: Precision, j: u32) -> Option<TableUnits>
     ensures { result ≡ node_in_table k.0 j }
 {

@@ -109,11 +109,11 @@ module _ (s n : ℕ) where
       let end : X ≡ q * S + (S - 1) = omega (arith, whole, ap (λ (x : ℕ). x * S) more, pow_pos (n - s)) in
       omega (arith, cut_long enough X ∙ ap (λ (x : ℕ). x / S) end ∙ high q (n - s) (omega (arith, pow_pos (n - s))), more)
 
--- the instance of a precision: t has 2k + 3 fraction bits, and is normalised where the operand is
-pub cut_normalised : (k n X : ℕ) → 2 ^ n ≤ X → X < 2 ^ (n + 1) → (2 ^ (2 * k + 3) ≤ cut_operand k n X) × (cut_operand k n X < 2 ^ (2 * k + 4))
-cut_normalised k n X l h =
-    let one_more : 2 * k + 3 + 1 ≡ 2 * k + 4 = omega arith in
-    rw one_more at (cut_range (2 * k + 3) n X l h)
+-- the instance of a table: t has 2k + b fraction bits, and is normalised where the operand is
+pub cut_normalised : (k b n X : ℕ) → 2 ^ n ≤ X → X < 2 ^ (n + 1) → (2 ^ (2 * k + b) ≤ cut_operand k b n X) × (cut_operand k b n X < 2 ^ (2 * k + (b + 1)))
+cut_normalised k b n X l h =
+    let one_more : 2 * k + b + 1 ≡ 2 * k + (b + 1) = omega arith in
+    rw one_more at (cut_range (2 * k + b) n X l h)
 
 -- b stays below 2^e when d zeros are written to its right, where d is 0, or where e is 0 and so b is
 none_lost : (b e d : ℕ) → b < 2 ^ e → (0 < d → e ≡ 0) → b * 2 ^ d < 2 ^ e

@@ -1,4 +1,4 @@
--- An operand: a whole number X with n fraction bits, which stands for X / 2^n (document 01, "Quantities" and "The reciprocal"; document 02, Q-1).
+-- An operand: a whole number X with n fraction bits, which stands for X / 2^n (document 01, "Quantities" and "The reciprocal"; document 02, Q-1 and Q-14).
 -- Assumes nothing.
 use Rattle.std.specs.Prelude.{ℕ, ◌+◌, ◌-◌, ◌*◌, ◌/◌, ◌^◌, Bool, ◌&&◌, leb, ltb}
 
@@ -22,10 +22,10 @@ is_normalised n X = leb (2 ^ n) X && ltb X (2 ^ (n + 1))
 abbrev pub cut_to : ℕ → ℕ → ℕ → ℕ
 cut_to s n X = X * 2 ^ (s - n) / 2 ^ (n - s)
 
--- the fraction bits that the table looks at: 2k + 3, three input guard bits among them
-abbrev pub cut_bits : ℕ → ℕ
-cut_bits k = 2 * k + 3
+-- the fraction bits that a table with b input guard bits looks at: 2k + b, these among them
+abbrev pub cut_bits : ℕ → ℕ → ℕ
+cut_bits k b = 2 * k + b
 
--- t: X with 2k + 3 fraction bits
-abbrev pub cut_operand : ℕ → ℕ → ℕ → ℕ
-cut_operand k = cut_to (cut_bits k)
+-- t: X with 2k + b fraction bits
+abbrev pub cut_operand : ℕ → ℕ → ℕ → ℕ → ℕ
+cut_operand k b = cut_to (cut_bits k b)

@@ -1,7 +1,7 @@
 -- Laws of `field_at`: the bits from some bit on are a digit of the list's number, and 8 bytes hold them.
 -- Assumes nothing.
 use Rattle.std.proofs.Common.{◌≡◌, ℕ, zero, suc, ◌+◌, ◌-◌, ◌*◌, ◌/◌, ◌%◌, ◌^◌, ◌<◌, ◌≤◌, List, length, get_or, sym, ap, ◌∙◌, subst, ap₂, add-zero, mod-lt, mod-eq_of_lt, mul_assoc, mul_comm, zero-add, zero-mul, arith, pow_pos, pow-add, shr-shr}
-use native.Mathlib.Nat.{zero-div, mul-add-div_right, mul-add-mod_self_right, mod-one, div-eq_of_lt, mul-div-mul_right}
+use native.Mathlib.Nat.{zero-div, mul-add-div_right, mul-add-mod_self_right, mod-one, div-eq_of_lt, mul-div-mul_right, add-mul-mod_self_right}
 use lib.ListN.{get_or-eq_default}
 use lib.Pow.{high, low, field, mod-pow-add}
 use Rattle.packing.specs.Packing.{bytes_value, Bytes, last_of, field_at}
@@ -100,8 +100,8 @@ field_split s b u v h one one' =
     back : 8 * L - (b + (u + v)) ≡ 8 * L - (b + u + v)
     back = omega arith
 
--- eight bytes from the first on hold up to 57 bits: moved up past the bits before them, and down
-module _ (s : List ℕ) (b w : ℕ) (hs : Bytes s) (one : 1 ≤ w) (wide : w ≤ 57) where
+-- eight bytes from the first on hold bits that lie within 64 from its first one on: moved up past the bits before them, and down
+module _ (s : List ℕ) (b w : ℕ) (hs : Bytes s) (one : 1 ≤ w) (within : b % 8 + w ≤ 64) where
   -- how many bytes hold them
   abbrev span : ℕ
   span = last_of b w + 1 - b / 8
@@ -139,12 +139,16 @@ module _ (s : List ℕ) (b w : ℕ) (hs : Bytes s) (one : 1 ≤ w) (wide : w ≤
   moved : window_at s b / 2 ^ (64 - w) ≡ field_at s b w
   moved = down (bytes_value s (b / 8) 8) (b % 8) (omega arith) ∙ sym by_eight
 
-pub window_field : (s : List ℕ) (b w : ℕ) → Bytes s → w ≤ 57 → window_at s b / 2 ^ (64 - w) ≡ field_at s b w
+pub window_within : (s : List ℕ) (b w : ℕ) → Bytes s → b % 8 + w ≤ 64 → window_at s b / 2 ^ (64 - w) ≡ field_at s b w
 unfolding field_at
-window_field s b (suc w) hs wide = moved s b (suc w) hs (omega arith) wide
-window_field s b zero hs wide =
+window_within s b (suc w) hs within = moved s b (suc w) hs (omega arith) within
+window_within s b zero hs within =
     div-eq_of_lt (mod-lt (bytes_value s (b / 8) 8 * 2 ^ (b % 8)) (pow_pos 64))
     ∙ sym (mod-one (bytes_value s (b / 8) (last_of b 0 + 1 - b / 8) / 2 ^ (8 * (last_of b 0 + 1) - (b + 0))))
+
+-- as up to 57 bits do, whatever the first is
+pub window_field : (s : List ℕ) (b w : ℕ) → Bytes s → w ≤ 57 → window_at s b / 2 ^ (64 - w) ≡ field_at s b w
+window_field s b w hs wide = window_within s b w hs (omega arith)
 
 -- a window near the end of the bytes: those that are there, and zeros behind them
 module _ (s : List ℕ) (b : ℕ) (below : b / 8 < length s) (near : length s < b / 8 + 8) where
@@ -175,6 +179,40 @@ module _ (s : List ℕ) (b : ℕ) (below : b / 8 < length s) (near : length s < 
       (ap (λ (x : ℕ). value * x) (pow-add 2 (8 * (8 - there)) (b % 8))
       ∙ sym (mul_assoc value (2 ^ (8 * (8 - there))) (2 ^ (b % 8)))
       ∙ ap (λ (x : ℕ). x * 2 ^ (b % 8)) (sym padded))
+
+  -- where there are eight bytes, the last eight are those and others before them, which fall off at the top
+  module _ (some : 8 ≤ length s) where
+    abbrev last : ℕ
+    last = length s - 8
+
+    -- how many come before
+    abbrev earlier : ℕ
+    earlier = b / 8 - last
+
+    abbrev others : ℕ
+    others = bytes_value s last earlier
+
+    last_eight : bytes_value s last 8 ≡ others * 2 ^ (there * 8) + value
+    last_eight =
+        ap (bytes_value s last) {x = 8} {y = earlier + there} (omega arith)
+        ∙ value_add s last earlier there
+        ∙ ap (λ (x : ℕ). others * 2 ^ (there * 8) + bytes_value s x there) {x = last + earlier} {y = b / 8} (omega arith)
+
+    off : 2 ^ (there * 8) * 2 ^ (8 * earlier + b % 8) ≡ 2 ^ (b % 8) * 2 ^ 64
+    off =
+        sym (pow-add 2 (there * 8) (8 * earlier + b % 8))
+        ∙ ap (λ (e : ℕ). 2 ^ e) {x = there * 8 + (8 * earlier + b % 8)} {y = b % 8 + 64} (omega arith)
+        ∙ pow-add 2 (b % 8) 64
+
+    lifted : bytes_value s last 8 * 2 ^ (8 * earlier + b % 8) ≡ value * 2 ^ (8 * earlier + b % 8) + others * 2 ^ (b % 8) * 2 ^ 64
+    lifted = omega (arith, ap (λ (x : ℕ). x * 2 ^ (8 * earlier + b % 8)) last_eight, ap (λ (x : ℕ). others * x) off)
+
+    pub window_last : (bytes_value s last 8 * 2 ^ (8 * earlier + b % 8)) % 2 ^ 64 ≡ window_at s b
+    window_last =
+        ap (λ (x : ℕ). x % 2 ^ 64) lifted
+        ∙ add-mul-mod_self_right (value * 2 ^ (8 * earlier + b % 8)) (others * 2 ^ (b % 8)) (2 ^ 64)
+        ∙ ap (λ (e : ℕ). (value * 2 ^ (8 * e + b % 8)) % 2 ^ 64) {x = earlier} {y = 8 - there} (omega arith)
+        ∙ window_near
 
 -- and past it
 pub window_past : (s : List ℕ) (b : ℕ) → length s ≤ b / 8 → window_at s b ≡ 0

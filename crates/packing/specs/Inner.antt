@@ -8,7 +8,7 @@ use Rattle.packing.specs.Packing.{bytes_value, field_at}
 abbrev pub window_at : List ℕ → ℕ → ℕ
 window_at s b = (bytes_value s (b / 8) 8 * 2 ^ (b % 8)) % 2 ^ 64
 
--- the most bits that are read at once: with up to 7 bits before them they lie within 8 bytes
+-- the most bits that are read at once wherever they begin: with up to 7 bits before them they lie within 8 bytes
 abbrev pub widest : ℕ
 widest = 57
 

@@ -15,9 +15,9 @@ greatest = 12
 abbrev pub in_range : ℕ → Bool
 in_range k = leb least k && leb k greatest
 
--- the bits of one plain word: w = 2k + 2
-abbrev pub word_width : ℕ → ℕ
-word_width k = 2 * k + 2
+-- the bits of one plain word with a table guard bits: w = 2k + a (document 02, Q-14)
+abbrev pub word_width : ℕ → ℕ → ℕ
+word_width k a = 2 * k + a
 
 -- the number of the last node
 abbrev pub last_node : ℕ → ℕ
@@ -27,10 +27,10 @@ last_node k = 2 ^ k
 abbrev pub word_count : ℕ → ℕ
 word_count k = last_node k
 
--- the bytes of a plain image, which its words fill (2^k × (2k + 2) / 8 of them: `length_eighth` in Demand2)
+-- the bytes of a plain image with two table guard bits, which its words fill (2^k × (2k + 2) / 8 of them: `length_eighth` in Demand2)
 abbrev pub image_length : ℕ → ℕ
-image_length k = byte_count (word_width k) (word_count k)
+image_length k = byte_count (word_width k 2) (word_count k)
 
--- the bytes of the longest plain image
+-- the bytes of the longest plain image with two table guard bits
 abbrev pub longest_image : ℕ
 longest_image = image_length greatest

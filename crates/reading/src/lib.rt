@@ -9,7 +9,7 @@ use answers::{Part, Refused};
 use format::{Form, Format};
 use units::TableUnits;
 
-// The value of node j; its own word alone is read. Node 2^k has none in plain words, and is then the leading one.
+// The value of node j; its own word alone is read, and none where it has none.
 #[inline(always)]
 fn by_word(format: Format, image: &[u8], j: u32) -> Result<TableUnits, Refused>
     ensures { outcome_of_node result ≡ node_outcome format image.now j }
@@ -18,20 +18,22 @@ fn by_word(format: Format, image: &[u8], j: u32) -> Result<TableUnits, Refused>
     if table.first < j {
         return Err(Refused::Node);
     }
-    if j == table.count {
-        return Ok(TableUnits(table.lead as u64));
-    }
-    let word = packing::word(image::own_bytes(format, image), table.width, j);
-    table.judged(j, word as u32).ok_or(Refused::Word(j))
+    image::node(table, image::own_bytes(table, image), j).ok_or(Refused::Word(j))
 }
 
-// The same for each form by code of its own, in which the compiler knows it.
+// The same for each form by code of its own, in which the compiler knows it, and with the usual guard bits knows these too.
 pub fn node(format: Format, image: &[u8], j: u32) -> Result<TableUnits, Refused>
     ensures { outcome_of_node result ≡ node_outcome format image.now j }
 {
+    if format.guard_bits.are_usual() {
+        return match format.form {
+            Form::Plain => by_word(Format::plain(format.precision), image, j),
+            Form::Full => by_word(Format::full(format.precision), image, j),
+        };
+    }
     match format.form {
-        Form::Plain => by_word(Format::plain(format.precision), image, j),
-        Form::Full => by_word(Format::full(format.precision), image, j),
+        Form::Plain => by_word(format.in_form(Form::Plain), image, j),
+        Form::Full => by_word(format.in_form(Form::Full), image, j),
     }
 }
 

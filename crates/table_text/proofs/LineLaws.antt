@@ -37,12 +37,12 @@ text_out_of_range k e = rw e
 
 module _ (k j : ℕ) where
   -- the line of a node that has a word: the lowest bits of its value
-  pub line_word : {c w : ℕ} → j < 2 ^ k → c ≡ node k j → w ≡ c % 2 ^ word_width k → field j space ++ field c space ++ field w line_feed ≡ line k j
+  pub line_word : {c w : ℕ} → j < 2 ^ k → c ≡ node k 2 j → w ≡ c % 2 ^ word_width k 2 → field j space ++ field c space ++ field w line_feed ≡ line k j
   unfolding line
   line_word {c} {w} h p q = rw (q, p, ne_eqb j (2 ^ k) (omega arith))
 
   -- the line of the last node
-  pub line_last : {c : ℕ} → j ≡ 2 ^ k → c ≡ node k j → field j space ++ field c space ++ hyphen_text ≡ line k j
+  pub line_last : {c : ℕ} → j ≡ 2 ^ k → c ≡ node k 2 j → field j space ++ field c space ++ hyphen_text ≡ line k j
   unfolding line
   line_last {c} h p = rw (p, eq-eqb j (2 ^ k) h)
 

@@ -27,22 +27,22 @@ pub columns_most : (j c : ℕ) → length (field j space ++ field c space) ≤ 4
 columns_most j c = rw length-append (omega (arith, field_most j space, field_most c space))
 
 -- a node's value is at most what is divided for it
-node_below : (k j : ℕ) → in_range k ≡ true → node k j < 10 ^ 12
+node_below : (k j : ℕ) → in_range k ≡ true → node k 2 j < 10 ^ 12
 node_below k j e =
     let top : 2 ^ (3 * k + 3) ≤ 2 ^ 39 = pow_mono {i = 3 * k + 3} {j = 39} (omega (arith, (in-range k e).1)) in
     let one : rounded_up (2 ^ (3 * k + 3)) 1 ≡ 2 ^ (3 * k + 3) = rw mul-one at (exact (2 ^ (3 * k + 3)) 1 (omega arith)) in
     omega (arith, top, one, antitone (2 ^ (3 * k + 3)) {i = 1} {i' = 2 ^ k + j} (omega arith) (omega (arith, pow_pos k)))
 
-word_below : (k j : ℕ) → in_range k ≡ true → stored_word k j < 10 ^ 8
+word_below : (k j : ℕ) → in_range k ≡ true → stored_word k 2 j < 10 ^ 8
 word_below k j e =
-    omega (arith, mod-lt (node k j) (pow_pos (word_width k)), pow_mono {i = word_width k} {j = 26} (omega (arith, (in-range k e).1)))
+    omega (arith, mod-lt (node k 2 j) (pow_pos (word_width k 2)), pow_mono {i = word_width k 2} {j = 26} (omega (arith, (in-range k e).1)))
 
 word_most : (k j : ℕ) → in_range k ≡ true → length (word_field k j) ≤ 9
 word_most k j e = go (eqb j (2 ^ k))
   where
-    go : (x : Bool) → length (cond x hyphen_text (field (stored_word k j) line_feed)) ≤ 9
+    go : (x : Bool) → length (cond x hyphen_text (field (stored_word k 2 j) line_feed)) ≤ 9
     go true = omega arith
-    go false = field_below 8 (stored_word k j) line_feed (omega arith) (word_below k j e)
+    go false = field_below 8 (stored_word k 2 j) line_feed (omega arith) (word_below k j e)
 
 -- the line of a node has at most 27 bytes
 pub line_most : (k j : ℕ) → in_range k ≡ true → j ≤ 2 ^ k → length (line k j) ≤ 27
@@ -52,7 +52,7 @@ line_most k j e h =
     (omega (
       arith,
       field_below 4 j space (omega arith) (omega (arith, count_most k e)),
-      field_below 12 (node k j) space (omega arith) (node_below k j e),
+      field_below 12 (node k 2 j) space (omega arith) (node_below k j e),
       word_most k j e,
     ))
 
@@ -71,7 +71,7 @@ header_most k e =
     simp length-append
     (omega (arith, field_below 2 k space (omega arith) (omega (arith, r.1)), field_below 5 (image_length k) line_feed (omega arith) bytes))
   where
-    wide : (1 ≤ k) × (k ≤ 12) → word_width k ≤ 26
+    wide : (1 ≤ k) × (k ≤ 12) → word_width k 2 ≤ 26
     wide r = omega (arith, r.1)
 
 -- before the line of any node there is room for 63 bytes more

@@ -1,4 +1,4 @@
--- The printed table (document 01, "The printed table").
+-- The printed table (document 01, "The printed table"), of two table guard bits.
 -- Assumes nothing.
 use Rattle.std.specs.Prelude.{ℕ, zero, suc, ◌+◌, ◌*◌, ◌^◌, Bool, cond, List, [], ◌∷◌, ◌++◌, leb, eqb, length, unwrap_or}
 use Rattle.decimal.specs.Text.{written}
@@ -16,11 +16,11 @@ hyphen_text = 45 ∷ line_feed ∷ []
 
 -- the last column of node j: its stored word, and a hyphen at node 2^k, whose word is not stored
 abbrev pub word_field : ℕ → ℕ → List ℕ
-word_field k j = cond (eqb j (2 ^ k)) hyphen_text (field (stored_word k j) line_feed)
+word_field k j = cond (eqb j (2 ^ k)) hyphen_text (field (stored_word k 2 j) line_feed)
 
 -- the line of node j: its number, its value and its word
 unfoldable pub line : ℕ → ℕ → List ℕ
-line k j = field j space ++ field (node k j) space ++ word_field k j
+line k j = field j space ++ field (node k 2 j) space ++ word_field k j
 
 -- the lines of the first n nodes
 unfoldable pub lines : ℕ → ℕ → List ℕ

@@ -1,4 +1,4 @@
-// The printed table of a precision, as text in a lent buffer.
+// The printed table of a precision, with two table guard bits, as text in a lent buffer.
 #![tactic(auto)]
 
 ghost use Rattle.std.specs.Prelude.{◌≡◌, true, ◌++◌, ◌^◌, ◌≤◌};
@@ -17,6 +17,7 @@ ghost use Rattle.table_text.specs.TableText.{
 };
 
 use decimal::Text;
+use format::GuardBits;
 use precision::Precision;
 
 // The bytes that a buffer must have: every text fits.
@@ -50,7 +51,11 @@ fn line(text: &mut Text, k: Precision, j: u32)
     lines::put(text, j as u64, b' ');
     lines::put(text, c, b' ');
     if j < k.word_count().unwrap() {
-        lines::put(text, bits::low(c, k.word_width() as u32), b'\n');
+        lines::put(
+            text,
+            bits::low(c, k.word_width(GuardBits::USUAL.table) as u32),
+            b'\n',
+        );
     } else {
         text.put_text(b"-\n");
     }

@@ -14,7 +14,7 @@ use format::{Format, FormatNumbers};
 use operand::Operand;
 use units::TableUnits;
 
-// The bytes of the image of a format, 0 where its precision is none.
+// The bytes of the image of a format, 0 where there is no such table.
 #[unsafe(no_mangle)]
 pub extern "C" fn yildegga_image_length(format: FormatNumbers) -> usize
     ensures { result ≡ length_or_0 (format_of format) }
@@ -48,7 +48,7 @@ pub extern "C" fn yildegga_node(format: FormatNumbers, image: &[u8], j: u32) -> 
     reading::node(format.into(), image, j).into()
 }
 
-// Node j of precision 8 by the constant list, with no image lent, 0 where j is above 256.
+// Node j of precision 8 with two table guard bits by the constant list, with no image lent, 0 where j is above 256.
 #[unsafe(no_mangle)]
 pub extern "C" fn yildegga_node_8(j: u32) -> TableUnits
     ensures { result.0 ≡ node_or_0 8 j }

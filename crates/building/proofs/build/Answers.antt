@@ -10,7 +10,7 @@ use native.Mathlib.Omega.{arith}
 use lib.ListN.{length, drop}
 use lib.Pow.{pow_mono, pow_pos}
 use lib.Dec.{eqb}
-use Rattle.format.specs.Format.{precision_of}
+use Rattle.format.specs.Format.{precision_of, table_bits}
 use Rattle.format.specs.declared.Format.{Format}
 use Rattle.format.proofs.Laws.{width_most, count_most}
 use Rattle.packing.specs.Packing.{bytes_taken}
@@ -34,15 +34,15 @@ use Rattle.building.proofs.build.Goals as goal
 can-fill : (F : Format) (s : List ℕ) → ImageKept F s → CanFill (quotients_of F) (length s)
 can-fill F s ok =
     record {
-      wide = omega (arith, ok.high, width_most F.form (precision_of F));
+      wide = omega (arith, ok.high, ok.guard.table_most, width_most F.form (precision_of F) (table_bits F));
       few = omega (arith, pow_mono ok.high, count_most F.form (precision_of F));
-      above = pow_pos (3 * precision_of F + 3);
+      above = pow_pos (3 * precision_of F + (table_bits F + 1));
       exact = pow_mono high;
       room = ok.long;
     }
   where
-    high : 3 * precision_of F + 3 ≤ 53
-    high = omega (arith, ok.high)
+    high : 3 * precision_of F + (table_bits F + 1) ≤ 53
+    high = omega (arith, ok.high, ok.guard.table_most)
 
 pub fill-w-requires : goal.fill-w-requires
 fill-w-requires c =

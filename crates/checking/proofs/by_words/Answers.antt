@@ -13,7 +13,7 @@ use borrow.Author.Tests.{ltb-true, ltb-false}
 use Rattle.std.proofs.Common.{if◌then◌else◌, Some, None}
 use Rattle.std.specs.Option.{is_none}
 use Rattle.bools.proofs.Bools.{given, not_given}
-use Rattle.format.specs.Format.{precision_of, word_count, word_width}
+use Rattle.format.specs.Format.{precision_of, table_bits, word_count, word_width}
 use Rattle.format.specs.declared.Format.{Format}
 use Rattle.format.proofs.Laws.{width_least, width_most, count_least}
 use Rattle.nodes.specs.Inner.{quotients_of, judged_word}
@@ -28,31 +28,31 @@ use Rattle.layout.specs.Layout.{Layout, length_of, end_of, first_wrong}
 use Rattle.image.specs.Image.{table_of}
 use Rattle.image.specs.Refusals.{limits}
 use Rattle.image.specs.Calls.{check_outcome}
-use Rattle.image.specs.Inner.{own_bytes, layout_of}
+use Rattle.image.specs.Inner.{front_of, layout_of}
 use Rattle.image.proofs.Checks.{check_wrong, check_past, check_none}
 use Rattle.image.proofs.Laws.{own_layout}
-use Rattle.image.proofs.Limits.{limit_clear, clear_kept}
-use Rattle.image.proofs.OwnBytes.{own_length, own_wrong}
+use Rattle.image.proofs.Limits.{ImageKept, limit_clear, clear_kept}
+use Rattle.image.proofs.OwnBytes.{own_bytes, own_length, own_wrong}
 use Rattle.checking.specs.Inner.{AreWords, wrong_word}
 use Rattle.checking.proofs.by_words.Goals as goal
 
 -- the words of a table are such as are checked
-are_words : (F : Format) → 1 ≤ precision_of F → precision_of F ≤ 12 → AreWords (quotients_of F)
-are_words F low high =
+are_words : (F : Format) (s : List ℕ) → ImageKept F s → AreWords (quotients_of F)
+are_words F s kept =
     record {
-      some = omega (arith, pow_mono low, count_least F.form (precision_of F));
-      wide = omega (arith, low, width_least F.form (precision_of F));
-      two = omega (arith, high, width_most F.form (precision_of F));
+      some = omega (arith, pow_mono kept.low, count_least F.form (precision_of F));
+      wide = omega (arith, kept.low, kept.guard.table_least, width_least F.form (precision_of F) (table_bits F));
+      narrow = omega (arith, kept.high, kept.guard.table_most, width_most F.form (precision_of F) (table_bits F));
       judges = judges;
     }
   where
     judges : (j word : ℕ) → j < word_count F → word < 2 ^ word_width F → is_none (judged_word (quotients_of F) j word) ≡ not (eqb word ((layout_of (quotients_of F)).word j))
-    judges j word h l = judged_wrong F high j word h l ∙ ap (λ (l : Layout). not (eqb word (l.word j))) (sym (own_layout F))
+    judges j word h l = judged_wrong F kept.high kept.guard.table_most j word h l ∙ ap (λ (l : Layout). not (eqb word (l.word j))) (sym (own_layout F))
 
 -- behind the test of the limits, t being the table of the format
 module _ (F : Format) (s : List ℕ) (t : Quotients) (clear : some_applies (limits F (length s)) ≡ false) (table : t ≡ quotients_of F) where
   are_checked : AreWords t
-  are_checked = rw table (are_words F (clear_kept F s clear).low (clear_kept F s clear).high)
+  are_checked = rw table (are_words F s (clear_kept F s clear))
 
   -- the image's own bytes are as many as it has
   own_long : {bytes : List ℕ} → bytes ≡ own_bytes F s → length_of (layout_of t) ≤ length bytes
@@ -92,7 +92,7 @@ first_wrong-requires c =
     let clear = limit_clear c.args.format s c.in_ok-table.ensures.refusals in
     record {
       words = are_checked c.args.format s c.in_ok-table.table clear c.in_ok-table.ensures.numbers;
-      long = own_long c.args.format s c.in_ok-table.table clear c.in_ok-table.ensures.numbers c.own_bytes.ensures.bytes;
+      long = own_long c.args.format s c.in_ok-table.table clear c.in_ok-table.ensures.numbers (c.own_bytes.ensures.bytes ∙ ap (λ (q : Quotients). front_of q s) c.in_ok-table.ensures.numbers);
     }
 
 -- a word is wrong
@@ -102,7 +102,7 @@ returns-in-Some c =
     let s = c.args.image.now in
     let clear = limit_clear F s c.in_ok-table.ensures.refusals in
     let table = c.in_ok-table.ensures.numbers in
-    word_wrong F s c.in_ok-table.table clear table (sym c.in-Some.is ∙ c.first_wrong.ensures ∙ wrong_is F s c.in_ok-table.table clear table c.own_bytes.ensures.bytes)
+    word_wrong F s c.in_ok-table.table clear table (sym c.in-Some.is ∙ c.first_wrong.ensures ∙ wrong_is F s c.in_ok-table.table clear table (c.own_bytes.ensures.bytes ∙ ap (λ (q : Quotients). front_of q s) c.in_ok-table.ensures.numbers))
 
 -- a bit behind the words is one
 pub returns-in-Some-first_one : goal.returns-in-Some-first_one
@@ -111,7 +111,7 @@ returns-in-Some-first_one c =
     let s = c.args.image.now in
     let clear = limit_clear F s c.in_ok-table.ensures.refusals in
     let table = c.in_ok-table.ensures.numbers in
-    let none = sym c.in_default.is ∙ c.first_wrong.ensures ∙ wrong_is F s c.in_ok-table.table clear table c.own_bytes.ensures.bytes in
+    let none = sym c.in_default.is ∙ c.first_wrong.ensures ∙ wrong_is F s c.in_ok-table.table clear table (c.own_bytes.ensures.bytes ∙ ap (λ (q : Quotients). front_of q s) c.in_ok-table.ensures.numbers) in
     tail_wrong F s c.in_ok-table.table clear table none (sym c.in-Some-first_one.is ∙ c.first_one.ensures)
 
 -- nothing is wrong
@@ -121,5 +121,5 @@ returns c =
     let s = c.args.image.now in
     let clear = limit_clear F s c.in_ok-table.ensures.refusals in
     let table = c.in_ok-table.ensures.numbers in
-    let none = sym c.in_default.is ∙ c.first_wrong.ensures ∙ wrong_is F s c.in_ok-table.table clear table c.own_bytes.ensures.bytes in
+    let none = sym c.in_default.is ∙ c.first_wrong.ensures ∙ wrong_is F s c.in_ok-table.table clear table (c.own_bytes.ensures.bytes ∙ ap (λ (q : Quotients). front_of q s) c.in_ok-table.ensures.numbers) in
     none_wrong F s c.in_ok-table.table clear table none (sym c.in_default-first_one.is ∙ c.first_one.ensures)

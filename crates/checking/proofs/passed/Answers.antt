@@ -30,7 +30,7 @@ left w count j n wide h long =
 module _ (t : Quotients) (p : AreWords t) (s : List ℕ) (bytes : Bytes s) (pair : ℕ) (more : 2 * pair + 1 < t.count) (right : AreRight (layout_of t) s (2 * pair))
     {bit window both : ℕ} (place : bit ≡ 2 * pair * t.width) (there : window ≡ window_at s bit) (top : both ≡ window / 2 ^ (64 - 2 * t.width)) where
   reads : both ≡ field_at s (2 * pair * t.width) (2 * t.width)
-  reads = of_window p s bytes (2 * pair) (top ∙ ap (λ (x : ℕ). x / 2 ^ (64 - 2 * t.width)) (there ∙ ap (window_at s) place))
+  reads = of_window p s bytes pair (top ∙ ap (λ (x : ℕ). x / 2 ^ (64 - 2 * t.width)) (there ∙ ap (window_at s) place))
 
   -- both words of the turn are there
   below : 2 * pair + 1 < t.count

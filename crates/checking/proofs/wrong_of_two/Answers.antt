@@ -1,26 +1,26 @@
 -- `checking::wrong_of_two` meets its contract: two words are read at once, and each is judged.
 -- Assumes nothing.
-use mathlib.Core.Path.{◌≡◌, refl, sym, ◌∙◌}
+use mathlib.Core.Path.{◌≡◌, refl, sym, ap, ◌∙◌}
 use mathlib.Core.Bool.{true, false}
 use mathlib.Core.List.{List}
-use Prim.Native.Nat.{ℕ, ◌+◌, ◌*◌, ◌/◌, ◌%◌, ◌^◌, ◌<◌}
+use Prim.Native.Nat.{ℕ, ◌+◌, ◌-◌, ◌*◌, ◌/◌, ◌%◌, ◌^◌, ◌<◌}
 use native.Mathlib.Omega.{arith}
 use Rattle.std.proofs.Common.{Some, None}
 use Rattle.std.specs.Option.{is_none}
 use Rattle.nodes.specs.Inner.{judged_word}
 use Rattle.nodes.specs.declared.Quotients.{Quotients}
 use Rattle.packing.specs.Packing.{Bytes, field_at, word_at}
-use Rattle.packing.specs.Inner.{field_read}
+use Rattle.packing.specs.Inner.{window_at}
 use Rattle.layout.specs.Layout.{is_wrong}
 use Rattle.image.specs.Inner.{layout_of}
 use Rattle.checking.specs.Inner.{AreWords, wrong_of_two}
 use Rattle.checking.proofs.Told.{none_is}
-use Rattle.checking.proofs.Twos.{word_fits, of_field, first_of, second_of, judged_tells}
+use Rattle.checking.proofs.Twos.{word_fits, of_window, first_of, second_of, judged_tells}
 use Rattle.checking.proofs.wrong_of_two.Goals as goal
 
-module _ (t : Quotients) (p : AreWords t) (s : List ℕ) (bytes : Bytes s) (pair : ℕ) (there : pair < t.count / 2) {both : ℕ} (field : both ≡ field_read s (2 * pair * t.width) (2 * t.width)) where
+module _ (t : Quotients) (p : AreWords t) (s : List ℕ) (bytes : Bytes s) (pair : ℕ) (there : pair < t.count / 2) {window both : ℕ} (there-too : window ≡ window_at s (2 * pair * t.width)) (top : both ≡ window / 2 ^ (64 - 2 * t.width)) where
   reads : both ≡ field_at s (2 * pair * t.width) (2 * t.width)
-  reads = of_field p s (2 * pair) field
+  reads = of_window p s bytes pair (top ∙ ap (λ (x : ℕ). x / 2 ^ (64 - 2 * t.width)) there-too)
 
   below : 2 * pair + 1 < t.count
   below = omega (arith, there)
@@ -60,21 +60,21 @@ module _ (t : Quotients) (p : AreWords t) (s : List ℕ) (bytes : Bytes s) (pair
 
 pub overflow_cast-high : goal.overflow_cast-high
 overflow_cast-high c =
-    record { fits = first-fits c.args.table c.requires.0 c.args.image.now (λ i. omega (arith, c.type_inv.image i)) c.args.pair c.requires.1 c.field-both.ensures.value c.high.ensures }
+    record { fits = first-fits c.args.table c.requires.0 c.args.image.now (λ i. omega (arith, c.type_inv.image i)) c.args.pair c.requires.1 c.window.ensures c.high-both.ensures c.high.ensures }
 
 pub returns-then-is_none : goal.returns-then-is_none
 returns-then-is_none c =
     let none = none_is c.judged.ensures c.is_none.ensures c.if-is_none.true in
-    first_is c.args.table c.requires.0 c.args.image.now (λ i. omega (arith, c.type_inv.image i)) c.args.pair c.requires.1 c.field-both.ensures.value c.high.ensures none
+    first_is c.args.table c.requires.0 c.args.image.now (λ i. omega (arith, c.type_inv.image i)) c.args.pair c.requires.1 c.window.ensures c.high-both.ensures c.high.ensures none
 
 pub returns-then-is_none-2 : goal.returns-then-is_none-2
 returns-then-is_none-2 c =
     let ok = none_is c.judged.ensures c.is_none.ensures c.if-is_none.false in
     let none = none_is c.judged-2.ensures c.is_none-2.ensures c.if-is_none-2.true in
-    second_is c.args.table c.requires.0 c.args.image.now (λ i. omega (arith, c.type_inv.image i)) c.args.pair c.requires.1 c.field-both.ensures.value c.high.ensures ok c.low.ensures none
+    second_is c.args.table c.requires.0 c.args.image.now (λ i. omega (arith, c.type_inv.image i)) c.args.pair c.requires.1 c.window.ensures c.high-both.ensures c.high.ensures ok c.low.ensures none
 
 pub returns : goal.returns
 returns c =
     let ok = none_is c.judged.ensures c.is_none.ensures c.if-is_none.false in
     let ok-too = none_is c.judged-2.ensures c.is_none-2.ensures c.if-is_none-2.false in
-    none_wrong c.args.table c.requires.0 c.args.image.now (λ i. omega (arith, c.type_inv.image i)) c.args.pair c.requires.1 c.field-both.ensures.value c.high.ensures ok c.low.ensures ok-too
+    none_wrong c.args.table c.requires.0 c.args.image.now (λ i. omega (arith, c.type_inv.image i)) c.args.pair c.requires.1 c.window.ensures c.high-both.ensures c.high.ensures ok c.low.ensures ok-too

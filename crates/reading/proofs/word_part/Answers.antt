@@ -6,7 +6,7 @@ use mathlib.Core.List.{List}
 use Prim.Native.Nat.{ℕ, ◌+◌, ◌-◌, ◌*◌, ◌/◌, ◌<◌, ◌≤◌}
 use native.Mathlib.Omega.{arith}
 use lib.ListN.{length}
-use Rattle.format.specs.Format.{precision_of, word_width}
+use Rattle.format.specs.Format.{precision_of, table_bits, word_width}
 use Rattle.format.specs.declared.Format.{Format}
 use Rattle.format.proofs.Laws.{width_least}
 use Rattle.packing.specs.Packing.{first_byte, span_bytes}
@@ -35,7 +35,7 @@ module _ (F : Format) (s : List ℕ) (t : Quotients) (clear : some_applies (limi
   count : (j * t.width + t.width + 7) / 8 - j * t.width / 8 ≡ shown_count F s j
   count =
       ap (λ (q : Quotients). (j * q.width + q.width + 7) / 8 - j * q.width / 8) table
-      ∙ span (word_width F) j (omega (arith, width_least F.form (precision_of F)))
+      ∙ span (word_width F) j (omega (arith, (clear_kept F s clear).guard.table_least, width_least F.form (precision_of F) (table_bits F)))
       ∙ sym (shown-count F s j (clear_kept F s clear) below)
 
 pub returns-in-Ok : goal.returns-in-Ok

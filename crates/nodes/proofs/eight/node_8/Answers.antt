@@ -15,4 +15,4 @@ pub returns : goal.returns
 unfolding rounded_up
 returns c =
     let j = c.args.j in
-    rw (c.wide.ensures, node_given 8 refl j (omega arith)) (ap (λ (n : ℕ). Some (record { 0 = n })) (rw read (entry (node 8) _ j (search rules) refl)))
+    rw (c.wide.ensures, node_given 8 refl j (omega arith)) (ap (λ (n : ℕ). Some (record { 0 = n })) (rw read (entry (node 8 2) _ j (search rules) refl)))
