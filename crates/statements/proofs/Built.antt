@@ -11,7 +11,8 @@ use lib.ListN.{length, take, get_or, length-take}
 use lib.Seq.{get_or-take}
 use lib.Dec.{eqb}
 use borrow.Author.Tests.{eqb-true, ne_eqb}
-use Rattle.format.specs.Format.{precision_of, plain_of, full_of, word_count, word_width, image_length}
+use Rattle.format.specs.Format.{precision_of, table_bits, input_bits, asked, word_count, word_width, image_length}
+use Rattle.format.specs.declared.Form.TheVariants.{Plain, Full}
 use Rattle.format.specs.declared.Format.{Format}
 use Rattle.nodes.specs.Nodes.{node}
 use Rattle.packing.specs.Packing.{Bytes, bit_at, bit_of_word}
@@ -23,13 +24,13 @@ use Rattle.answers.specs.Refusal.{Outcome, outcome, served, some_applies}
 use Rattle.layout.specs.Layout.{rom_of, first_past}
 use Rattle.layout.specs.Refusals.{word_refusal}
 use Rattle.layout.proofs.Laws as layouts
+use Rattle.layout.proofs.Laws.{Fits}
 use Rattle.layout.proofs.Rom as roms
 use Rattle.image.specs.Image.{table_of, image, word_of, node_of}
 use Rattle.image.specs.Refusals.{node_refusal}
 use Rattle.image.specs.Calls.{build_outcome, build_leaves, check_outcome, node_outcome}
-use Rattle.image.proofs.Laws.{table_fits}
+use Rattle.image.proofs.Laws.{table_fits, has_bits}
 use Rattle.image.proofs.Checks.{check_none}
-use Rattle.image.proofs.Limits.{limit_none}
 use Rattle.image.proofs.Judging.{node_served}
 use Rattle.operand.specs.Operand.{cut_operand}
 use Rattle.operand.specs.Refusals.{operand_refusals}
@@ -37,10 +38,10 @@ use Rattle.operand.proofs.Limits.{operand_decides, operand_passes, operand_kept}
 use Rattle.interpolation.specs.Algorithm.{node_number}
 use Rattle.interpolation.specs.Reciprocal.{read_reciprocal, reciprocal}
 use Rattle.interpolation.specs.Calls.{cut_refusals, reciprocal_outcome}
-use Rattle.statements.specs.Terms.{IsPrecision, IsLongEnough, right_word, IsRightAt, IsTailZero, IsFractionCount, IsNormalised}
-use Rattle.statements.proofs.Iff.{read_right}
+use Rattle.statements.specs.Terms.{IsOffered, IsLongEnough, right_word, IsRightAt, IsTailZero, IsFractionCount, IsNormalised}
+use Rattle.statements.proofs.Iff.{guards_of, read_right}
 use Rattle.statements.proofs.Nodes.{served_decodes}
-use Rattle.statements.proofs.Numbers.{kept_answer, later_number}
+use Rattle.statements.proofs.Numbers.{limits_kept, kept_answer, later_number}
 use Rattle.statements.proofs.Reciprocals.{has_word, gives}
 use Rattle.statements.proofs.Tails.{IsFilledZero, past_end, end_zero}
 
@@ -54,17 +55,17 @@ module _ (F : Format) (s : List ℕ) where
     where
       go : (b : Bool) → eqb (build_outcome F s).number 0 ≡ b → P (cond b (rom_of (table_of F) (length s)) s)
       go true e =
-          built ((later_number F s [] 0 0 tt tt).0 (eqb-true (build_outcome F s).number 0 e)).1.0
+          built ((later_number F s [] 0 0 tt tt tt).0 (eqb-true (build_outcome F s).number 0 e)).1.0
       go false e = found
 
   pub built_as_long : length (build_leaves F s) ≡ length s
   built_as_long = by_image (λ t. length t ≡ length s) refl (roms.rom_length (table_of F) (length s))
 
-  -- a precision and a long enough buffer are built
-  pub built : IsPrecision (precision_of F) → IsLongEnough F s → build_leaves F s ≡ rom_of (table_of F) (length s)
+  -- a format that can be ordered and a long enough buffer are built
+  pub built : IsOffered F → IsLongEnough F s → build_leaves F s ≡ rom_of (table_of F) (length s)
   built p l = ap (λ (o : Outcome). cond (eqb o.number 0) (rom_of (table_of F) (length s)) s) (kept_answer F s [] 0 p l)
 
-module _ (F : Format) (s : List ℕ) (p : IsPrecision (precision_of F)) (l : IsLongEnough F s) where
+module _ (F : Format) (s : List ℕ) (p : IsOffered F) (l : IsLongEnough F s) where
   -- the buffer behind the builder
   abbrev left : List ℕ
   left = build_leaves F s
@@ -72,8 +73,17 @@ module _ (F : Format) (s : List ℕ) (p : IsPrecision (precision_of F)) (l : IsL
   abbrev k : ℕ
   k = precision_of F
 
+  abbrev a : ℕ
+  a = table_bits F
+
+  abbrev b : ℕ
+  b = input_bits F
+
+  fits : Fits (table_of F)
+  fits = table_fits F (has_bits F (guards_of F.guard_bits p.1))
+
   pub built_words : (j : ℕ) → j < word_count F → IsRightAt F left j
-  built_words j h = rw (built F s p l) (roms.rom_word (table_of F) (table_fits F) (length s) j h)
+  built_words j h = rw (built F s p l) (roms.rom_word (table_of F) fits (length s) j h)
 
   -- the image stands at the front, whatever stood there before
   pub front : take (image_length F) left ≡ image F
@@ -86,64 +96,64 @@ module _ (F : Format) (s : List ℕ) (p : IsPrecision (precision_of F)) (l : IsL
   -- it is bytes, whatever stood there before
   pub built_bytes : Bytes left
   built_bytes =
-      rw (built F s p l) (bytes_append (image F) (zeros (length s - image_length F)) (bytes-packed_bytes (word_width F) (right_word F.form k) (word_count F)) (bytes-zeros (length s - image_length F)))
+      rw (built F s p l) (bytes_append (image F) (zeros (length s - image_length F)) (bytes-packed_bytes (word_width F) (right_word F.form k a) (word_count F)) (bytes-zeros (length s - image_length F)))
 
   still_long : IsLongEnough F left
   still_long = rw (built_as_long F s) l
 
-  pub read_back : (j : ℕ) → j ≤ 2 ^ k → node_outcome F left j ≡ served (node k j)
+  pub read_back : (j : ℕ) → j ≤ 2 ^ k → node_outcome F left j ≡ served (node k a j)
   read_back j h =
       kept_answer F left (node_refusal k j ∷ word_refusal (table_of F) left j ∷ []) (node_of F left j) p still_long
       ∙ node_served F left j (node_of F left j) h (read_right F left j (built_words j))
       ∙ ap served (served_decodes F left j h (built_words j))
 
-  pub built_gives : (n X : ℕ) → IsFractionCount n → IsNormalised n X → reciprocal_outcome F left n X ≡ served (reciprocal k n X)
+  pub built_gives : (n X : ℕ) → IsFractionCount n → IsNormalised n X → reciprocal_outcome F left n X ≡ served (reciprocal k a b n X)
   built_gives n X c o =
-      gives F left n X p still_long c o (built_words (node_number k (cut_operand k n X)) (has_word F left n X o)) (built_words (node_number k (cut_operand k n X) + 1))
+      gives F left n X p still_long c o (built_words (node_number k b (cut_operand k b n X)) (has_word F left n X o)) (built_words (node_number k b (cut_operand k b n X) + 1))
 
   -- the answer to any operand: 4 or 5, or R
-  pub built_answers : (n X : ℕ) → reciprocal_outcome F left n X ≡ outcome (operand_refusals n X) (reciprocal k n X)
+  pub built_answers : (n X : ℕ) → reciprocal_outcome F left n X ≡ outcome (operand_refusals n X) (reciprocal k a b n X)
   built_answers n X = by (some_applies (operand_refusals n X)) refl
     where
-      by : (b : Bool) → some_applies (operand_refusals n X) ≡ b → reciprocal_outcome F left n X ≡ outcome (operand_refusals n X) (reciprocal k n X)
+      by : (some : Bool) → some_applies (operand_refusals n X) ≡ some → reciprocal_outcome F left n X ≡ outcome (operand_refusals n X) (reciprocal k a b n X)
       by false none =
           let o = operand_kept n X none in
-          built_gives n X (o.low, o.high) (o.least, o.below) ∙ sym (operand_passes n X [] (reciprocal k n X) none)
+          built_gives n X (o.low, o.high) (o.least, o.below) ∙ sym (operand_passes n X [] (reciprocal k a b n X) none)
       by true some =
-          kept_answer F left (operand_refusals n X ++ cut_refusals F left (cut_operand k n X)) (read_reciprocal F left (cut_operand k n X)) p still_long
-          ∙ operand_decides n X (cut_refusals F left (cut_operand k n X)) (read_reciprocal F left (cut_operand k n X)) some
-          ∙ sym (operand_decides n X [] (reciprocal k n X) some)
+          kept_answer F left (operand_refusals n X ++ cut_refusals F left (cut_operand k b n X)) (read_reciprocal F left (cut_operand k b n X)) p still_long
+          ∙ operand_decides n X (cut_refusals F left (cut_operand k b n X)) (read_reciprocal F left (cut_operand k b n X)) some
+          ∙ sym (operand_decides n X [] (reciprocal k a b n X) some)
 
   -- no byte has a one behind the last word
   nothing_past : length left ≤ first_past (table_of F) left
   nothing_past =
-      rw (built F s p l) (omega (arith, roms.rom_past (table_of F) (table_fits F) (length s) l, roms.rom_length (table_of F) (length s) l))
+      rw (built F s p l) (omega (arith, roms.rom_past (table_of F) fits (length s) l, roms.rom_length (table_of F) (length s) l))
 
   pub tail_zero : IsTailZero F left
   tail_zero = end_zero F left nothing_past
 
   pub built_checks : check_outcome F left ≡ served 0
   built_checks =
-      check_none F left (limit_none F left p.0 p.1 still_long) (le_of_eq (sym (layouts.all_right (table_of F) left built_words))) nothing_past
+      check_none F left (limits_kept F left p still_long) (le_of_eq (sym (layouts.all_right (table_of F) left built_words))) nothing_past
 
--- from the images of both forms every operand has the same answer
-pub same_in_both : (k : ℕ) (s s' : List ℕ) → IsPrecision k → IsLongEnough (plain_of k) s → IsLongEnough (full_of k) s' → (n X : ℕ)
-    → reciprocal_outcome (plain_of k) (build_leaves (plain_of k) s) n X ≡ reciprocal_outcome (full_of k) (build_leaves (full_of k) s') n X
-same_in_both k s s' p l m n X = built_answers (plain_of k) s p l n X ∙ sym (built_answers (full_of k) s' p m n X)
+-- from the images of both forms, of equal guard bits, every operand has the same answer
+pub same_in_both : (k a b : ℕ) (s s' : List ℕ) → IsOffered (asked Plain k a b) → IsLongEnough (asked Plain k a b) s → IsLongEnough (asked Full k a b) s' → (n X : ℕ)
+    → reciprocal_outcome (asked Plain k a b) (build_leaves (asked Plain k a b) s) n X ≡ reciprocal_outcome (asked Full k a b) (build_leaves (asked Full k a b) s') n X
+same_in_both k a b s s' p l m n X = built_answers (asked Plain k a b) s p l n X ∙ sym (built_answers (asked Full k a b) s' p m n X)
 
 -- right words with nothing behind them make a full ROM, and the other way round
-module _ (F : Format) (s : List ℕ) (bytes : Bytes s) (l : IsLongEnough F s) where
+module _ (F : Format) (s : List ℕ) (some : 1 ≤ word_width F) (bytes : Bytes s) (l : IsLongEnough F s) where
   pub right_is_rom : (((j : ℕ) → j < word_count F → IsRightAt F s j) × IsTailZero F s) ↔ (s ≡ rom_of (table_of F) (length s))
   right_is_rom = (to, from)
     where
       to : ((j : ℕ) → j < word_count F → IsRightAt F s j) × IsTailZero F s → s ≡ rom_of (table_of F) (length s)
-      to t = roms.right_rom (table_of F) (table_fits F) s bytes l t.0 (past_end F s t.1)
+      to t = roms.right_rom (table_of F) (table_fits F some) s bytes l t.0 (past_end F s t.1)
 
       from : s ≡ rom_of (table_of F) (length s) → ((j : ℕ) → j < word_count F → IsRightAt F s j) × IsTailZero F s
       from e = (
-        λ j h. ap (λ (u : List ℕ). word_of F u j) e ∙ roms.rom_word (table_of F) (table_fits F) (length s) j h,
+        λ j h. ap (λ (u : List ℕ). word_of F u j) e ∙ roms.rom_word (table_of F) (table_fits F some) (length s) j h,
         end_zero F s
-            (le_of_eq (sym (ap (first_past (table_of F)) e ∙ roms.rom_past (table_of F) (table_fits F) (length s) l))),
+            (le_of_eq (sym (ap (first_past (table_of F)) e ∙ roms.rom_past (table_of F) (table_fits F some) (length s) l))),
       )
 
   -- the front of a buffer is the image exactly where its words are right and its filling bits are zero
@@ -161,22 +171,22 @@ module _ (F : Format) (s : List ℕ) (bytes : Bytes s) (l : IsLongEnough F s) wh
 
       to : ((j : ℕ) → j < word_count F → IsRightAt F s j) × IsFilledZero F s → take (image_length F) s ≡ image F
       to t =
-          roms.right_rom (table_of F) (table_fits F) (take (image_length F) s) (bytes_take (image_length F) s bytes) (le_of_eq (sym as_long))
-          (λ j h. layouts.own_word (table_of F) (table_fits F) s j h ∙ t.0 j h)
+          roms.right_rom (table_of F) (table_fits F some) (take (image_length F) s) (bytes_take (image_length F) s bytes) (le_of_eq (sym as_long))
+          (λ j h. layouts.own_word (table_of F) (table_fits F some) s j h ∙ t.0 j h)
           (past_end F (take (image_length F) s) (λ b h m. let less : b < 8 * image_length F = omega (arith, m, as_long) in same_bit b less ∙ t.1 b h less))
           ∙ ap (rom_of (table_of F)) as_long
           ∙ no_zeros
 
       from : take (image_length F) s ≡ image F → ((j : ℕ) → j < word_count F → IsRightAt F s j) × IsFilledZero F s
       from e = (
-        layouts.front_right (table_of F) (table_fits F) s e,
+        layouts.front_right (table_of F) (table_fits F some) s e,
         λ b h m.
             sym (same_bit b m)
             ∙ end_zero F (take (image_length F) s)
-            (le_of_eq (as_long ∙ sym (ap (first_past (table_of F)) (e ∙ sym no_zeros) ∙ roms.rom_past (table_of F) (table_fits F) (image_length F) (omega arith))))
+            (le_of_eq (as_long ∙ sym (ap (first_past (table_of F)) (e ∙ sym no_zeros) ∙ roms.rom_past (table_of F) (table_fits F some) (image_length F) (omega arith))))
             b h (omega (arith, m, as_long)),
       )
 
 -- bit b of word j of the image
-pub image_bits : (F : Format) (j b : ℕ) → j < word_count F → b < word_width F → bit_at (image F) (j * word_width F + b) ≡ bit_of_word (word_width F) (right_word F.form (precision_of F) j) b
-image_bits F = layouts.image_bit (table_of F) (table_fits F)
+pub image_bits : (F : Format) → 1 ≤ word_width F → (j b : ℕ) → j < word_count F → b < word_width F → bit_at (image F) (j * word_width F + b) ≡ bit_of_word (word_width F) (right_word F.form (precision_of F) (table_bits F) j) b
+image_bits F some = layouts.image_bit (table_of F) (table_fits F some)

@@ -1,12 +1,13 @@
 -- Demand 1: refusals. Its clauses in our own words, each with what settles it; theorems stand on this page where no other is named. All of them are of
--- every format F, that is of both forms of words; proofs/Plain.antt and proofs/Full.antt say in the numbers of one form what reads otherwise there.
+-- every format F, that is of every precision, both forms of words and all guard bits; proofs/Plain.antt and proofs/Full.antt say in the numbers of one
+-- form what reads otherwise there, and proofs/Guards.antt what guard bits do.
 --
--- 1. A limit that is broken turns the call back by the number that is listed for it: build_refuses_1, build_refuses_2; check_refuses_1,
---    check_refuses_2, check_refuses_6, check_refuses_7; node_refuses_1, node_refuses_2, node_refuses_3, node_refuses_6; reciprocal_refuses_1,
---    reciprocal_refuses_2, reciprocal_refuses_4, reciprocal_refuses_5, reciprocal_refuses_6. A call has no other numbers: build_numbers,
---    check_numbers, node_numbers, reciprocal_numbers.
--- 2. In the listed order: by the theorems of 1 the number is r exactly when refusal r applies and none that is listed before it. They say
---    nothing of those listed after it, so that where two apply the earlier one gives the number.
+-- 1. A limit that is broken turns the call back by the number that is listed for it: build_refuses_1, build_refuses_18, build_refuses_2;
+--    check_refuses_1, check_refuses_18, check_refuses_2, check_refuses_6, check_refuses_7; node_refuses_1, node_refuses_18, node_refuses_2,
+--    node_refuses_3, node_refuses_6; reciprocal_refuses_1, reciprocal_refuses_18, reciprocal_refuses_2, reciprocal_refuses_4, reciprocal_refuses_5,
+--    reciprocal_refuses_6. A call has no other numbers: build_numbers, check_numbers, node_numbers, reciprocal_numbers.
+-- 2. In the listed order, in which 18 stands right behind 1: by the theorems of 1 the number is r exactly when refusal r applies and none that is listed
+--    before it. They say nothing of those listed after it, so that where two apply the earlier one gives the number.
 -- 3. At the listed place, which is 0 but under 6 and 7; under 6 the lowest node whose word is read and wrong, under 7, which the check alone
 --    gives, the lowest byte that has a one behind the last word: build_place, check_place, check_place_6, check_place_7, node_place_0, node_place_6,
 --    reciprocal_place_0, reciprocal_place_lower, reciprocal_place_upper. Under 7 that byte is the image's last one where a filling bit is one, and else
@@ -21,7 +22,7 @@
 --    The place is then 0: build_place, check_place, node_place_0, reciprocal_served_place. The value is 0 of the builder and the check
 --    (build_value, check_value), the node (node_served_value) and the reciprocal (given_is_R, in Demand3).
 -- 7. The same through a bound table, whose making turns nothing back: bound-node, bound-reciprocal.
--- 8. For all contents: F, j, n and X are any, F of any number k, and s is any list of numbers, of any length, whether they are bytes or not; where a
+-- 8. For all contents: F, j, n and X are any, F of any numbers k, a and b, and s is any list of numbers, of any length, whether they are bytes or not; where a
 --    whole byte is said to be zero or not, s is a list of bytes (check_place_byte), as every lent slice is. No theorem assumes more than which number
 --    was given, whether the word of node j is right (reciprocal_place_lower, reciprocal_place_upper), whether a filling bit is one (check_place_filling,
 --    check_place_byte), or whether a word is shown (part_at_front, part_length, part_from, part_bytes).
@@ -37,7 +38,7 @@ use Prim.Native.Nat.{ℕ, ◌+◌, ◌-◌, ◌*◌, ◌/◌, ◌^◌, ◌≤◌
 use lib.Dec.{T}
 use lib.ListN.{length, get_or}
 use denote.Ref.{Bor}
-use Rattle.format.specs.Format.{precision_of, word_count, word_width, image_length}
+use Rattle.format.specs.Format.{precision_of, table_bits, input_bits, word_count, word_width, image_length}
 use Rattle.format.specs.declared.Format.{Format}
 use Rattle.nodes.specs.Nodes.{node}
 use Rattle.packing.specs.Packing.{Bytes, bit_at}
@@ -52,11 +53,11 @@ use Rattle.interpolation.specs.Algorithm.{node_number}
 use Rattle.interpolation.specs.Reciprocal.{read_reciprocal}
 use Rattle.interpolation.specs.Calls.{reciprocal_refusals, reciprocal_outcome}
 use Rattle.binding.specs.Bound.{bound}
-use Rattle.statements.specs.Terms.{IsPrecision, IsLongEnough, IsRightAt, IsSetPast, IsTailZero, IsFractionCount, IsNormalised}
+use Rattle.statements.specs.Terms.{IsPrecision, AreGuardBits, IsOffered, IsLongEnough, IsRightAt, IsSetPast, IsTailZero, IsFractionCount, IsNormalised}
 use Rattle.statements.proofs.Iff.{joined, both, row3, row4, same, some_wrong, none_wrong, some_past, none_past}
 use Rattle.statements.proofs.Built.{left_as_found, built_as_long}
 use Rattle.statements.proofs.Nodes.{served_decodes}
-use Rattle.statements.proofs.Numbers.{alone, refuses_1, refuses_2, later_number, of_content, first-wrong, number_7, set_place, node_number_3, node_number_6, node_number_0, node_place}
+use Rattle.statements.proofs.Numbers.{alone, refuses_1, refuses_18, refuses_2, later_number, of_content, first-wrong, number_7, set_place, node_number_3, node_number_6, node_number_0, node_place}
 use Rattle.statements.proofs.Reciprocals
 use Rattle.statements.proofs.Tails.{filling_place, byte_place}
 use Rattle.statements.proofs.Parts.{shown_empty, shown_length, shown_first, shown_bytes, shown_none, hidden_at_front}
@@ -67,17 +68,21 @@ module _ (F : Format) (s : List ℕ) where
   pub build_refuses_1 : ((build_outcome F s).number ≡ 1) ↔ (IsPrecision (precision_of F) → ⊥)
   build_refuses_1 = refuses_1 F s [] 0 tt
 
+  -- 18: the table guard bits are not 2 to 4, or the input guard bits, which play no part in an image, not 3 to 5
+  pub build_refuses_18 : ((build_outcome F s).number ≡ 18) ↔ (IsPrecision (precision_of F) × (AreGuardBits (table_bits F) (input_bits F) → ⊥))
+  build_refuses_18 = refuses_18 F s [] 0 tt
+
   -- 2: the image buffer is shorter than the image of the format
-  pub build_refuses_2 : ((build_outcome F s).number ≡ 2) ↔ (IsPrecision (precision_of F) × (length s < image_length F))
+  pub build_refuses_2 : ((build_outcome F s).number ≡ 2) ↔ (IsOffered F × (length s < image_length F))
   build_refuses_2 = refuses_2 F s [] 0 tt
 
   -- whatever breaks none is served
-  pub build_serves : ((build_outcome F s).number ≡ 0) ↔ (IsPrecision (precision_of F) × IsLongEnough F s)
-  build_serves = joined (later_number F s [] 0 0 tt tt) (both same alone)
+  pub build_serves : ((build_outcome F s).number ≡ 0) ↔ (IsOffered F × IsLongEnough F s)
+  build_serves = joined (later_number F s [] 0 0 tt tt tt) (both same alone)
 
   -- and there is no other number
-  pub build_numbers : T (is_one_of (build_outcome F s).number (0 ∷ 1 ∷ 2 ∷ []))
-  build_numbers = listed (0 ∷ 1 ∷ 2 ∷ []) (build_refusals F s) 0 tt tt
+  pub build_numbers : T (is_one_of (build_outcome F s).number (0 ∷ 1 ∷ 18 ∷ 2 ∷ []))
+  build_numbers = listed (0 ∷ 1 ∷ 18 ∷ 2 ∷ []) (build_refusals F s) 0 tt tt
 
   -- place and value are 0
   pub build_place : (build_outcome F s).place ≡ 0
@@ -98,29 +103,32 @@ module _ (F : Format) (s : List ℕ) where
   pub check_refuses_1 : ((check_outcome F s).number ≡ 1) ↔ (IsPrecision (precision_of F) → ⊥)
   check_refuses_1 = refuses_1 F s (of_content F s) 0 tt
 
-  pub check_refuses_2 : ((check_outcome F s).number ≡ 2) ↔ (IsPrecision (precision_of F) × (length s < image_length F))
+  pub check_refuses_18 : ((check_outcome F s).number ≡ 18) ↔ (IsPrecision (precision_of F) × (AreGuardBits (table_bits F) (input_bits F) → ⊥))
+  check_refuses_18 = refuses_18 F s (of_content F s) 0 tt
+
+  pub check_refuses_2 : ((check_outcome F s).number ≡ 2) ↔ (IsOffered F × (length s < image_length F))
   check_refuses_2 = refuses_2 F s (of_content F s) 0 tt
 
   -- 6: a word is not the construction's, whatever the tail holds
-  pub check_refuses_6 : ((check_outcome F s).number ≡ 6) ↔ (IsPrecision (precision_of F) × IsLongEnough F s × ((j : ℕ) × (j < word_count F) × (IsRightAt F s j → ⊥)))
+  pub check_refuses_6 : ((check_outcome F s).number ≡ 6) ↔ (IsOffered F × IsLongEnough F s × ((j : ℕ) × (j < word_count F) × (IsRightAt F s j → ⊥)))
   check_refuses_6 =
-      joined (later_number F s (of_content F s) 0 6 tt tt)
+      joined (later_number F s (of_content F s) 0 6 tt tt tt)
       (joined (both same (both same (joined (first (image_refusal (table_of F) s) (tail_refusal (table_of F) s ∷ []) 0 tt) (some_wrong F s)))) row3)
 
   -- 7: the words are right, and a byte has a one behind the last of them
   pub check_refuses_7 : ((check_outcome F s).number ≡ 7)
-      ↔ (IsPrecision (precision_of F) × IsLongEnough F s × ((j : ℕ) → j < word_count F → IsRightAt F s j) × ((i : ℕ) × IsSetPast F s i))
+      ↔ (IsOffered F × IsLongEnough F s × ((j : ℕ) → j < word_count F → IsRightAt F s j) × ((i : ℕ) × IsSetPast F s i))
   check_refuses_7 = joined (number_7 F s) (joined (both same (both same (both same (some_past F s)))) row4)
 
-  pub check_serves : ((check_outcome F s).number ≡ 0) ↔ (IsPrecision (precision_of F) × IsLongEnough F s × ((j : ℕ) → j < word_count F → IsRightAt F s j) × IsTailZero F s)
+  pub check_serves : ((check_outcome F s).number ≡ 0) ↔ (IsOffered F × IsLongEnough F s × ((j : ℕ) → j < word_count F → IsRightAt F s j) × IsTailZero F s)
   check_serves =
-      joined (later_number F s (of_content F s) 0 0 tt tt)
+      joined (later_number F s (of_content F s) 0 0 tt tt tt)
       (joined (both same (both same
       (joined (later 0 (image_refusal (table_of F) s) (tail_refusal (table_of F) s ∷ []) 0 tt)
       (both (none_wrong F s) (joined (later 0 (tail_refusal (table_of F) s) [] 0 tt) (joined alone (none_past F s))))))) row4)
 
-  pub check_numbers : T (is_one_of (check_outcome F s).number (0 ∷ 1 ∷ 2 ∷ 6 ∷ 7 ∷ []))
-  check_numbers = listed (0 ∷ 1 ∷ 2 ∷ 6 ∷ 7 ∷ []) (check_refusals F s) 0 tt tt
+  pub check_numbers : T (is_one_of (check_outcome F s).number (0 ∷ 1 ∷ 18 ∷ 2 ∷ 6 ∷ 7 ∷ []))
+  check_numbers = listed (0 ∷ 1 ∷ 18 ∷ 2 ∷ 6 ∷ 7 ∷ []) (check_refusals F s) 0 tt tt
 
   -- the place is 0 but under 6 and 7
   pub check_place : ((check_outcome F s).number ≡ 6 → ⊥) → ((check_outcome F s).number ≡ 7 → ⊥) → (check_outcome F s).place ≡ 0
@@ -152,28 +160,31 @@ module _ (F : Format) (s : List ℕ) (j : ℕ) where
   pub node_refuses_1 : ((node_outcome F s j).number ≡ 1) ↔ (IsPrecision (precision_of F) → ⊥)
   node_refuses_1 = refuses_1 F s (node_refusal (precision_of F) j ∷ word_refusal (table_of F) s j ∷ []) (node_of F s j) tt
 
-  pub node_refuses_2 : ((node_outcome F s j).number ≡ 2) ↔ (IsPrecision (precision_of F) × (length s < image_length F))
+  pub node_refuses_18 : ((node_outcome F s j).number ≡ 18) ↔ (IsPrecision (precision_of F) × (AreGuardBits (table_bits F) (input_bits F) → ⊥))
+  node_refuses_18 = refuses_18 F s (node_refusal (precision_of F) j ∷ word_refusal (table_of F) s j ∷ []) (node_of F s j) tt
+
+  pub node_refuses_2 : ((node_outcome F s j).number ≡ 2) ↔ (IsOffered F × (length s < image_length F))
   node_refuses_2 = refuses_2 F s (node_refusal (precision_of F) j ∷ word_refusal (table_of F) s j ∷ []) (node_of F s j) tt
 
   -- 3: the node number is above 2^k
-  pub node_refuses_3 : ((node_outcome F s j).number ≡ 3) ↔ (IsPrecision (precision_of F) × IsLongEnough F s × (2 ^ precision_of F < j))
+  pub node_refuses_3 : ((node_outcome F s j).number ≡ 3) ↔ (IsOffered F × IsLongEnough F s × (2 ^ precision_of F < j))
   node_refuses_3 =
-      joined (later_number F s (node_refusal (precision_of F) j ∷ word_refusal (table_of F) s j ∷ []) (node_of F s j) 3 tt tt)
+      joined (later_number F s (node_refusal (precision_of F) j ∷ word_refusal (table_of F) s j ∷ []) (node_of F s j) 3 tt tt tt)
       (joined (both same (both same (node_number_3 F s j (node_of F s j)))) row3)
 
   -- 6: the word of node j is not the construction's; a node that has none, as node 2^k in plain words, never gives it
-  pub node_refuses_6 : ((node_outcome F s j).number ≡ 6) ↔ (IsPrecision (precision_of F) × IsLongEnough F s × (j < word_count F) × (IsRightAt F s j → ⊥))
+  pub node_refuses_6 : ((node_outcome F s j).number ≡ 6) ↔ (IsOffered F × IsLongEnough F s × (j < word_count F) × (IsRightAt F s j → ⊥))
   node_refuses_6 =
-      joined (later_number F s (node_refusal (precision_of F) j ∷ word_refusal (table_of F) s j ∷ []) (node_of F s j) 6 tt tt)
+      joined (later_number F s (node_refusal (precision_of F) j ∷ word_refusal (table_of F) s j ∷ []) (node_of F s j) 6 tt tt tt)
       (joined (both same (both same (node_number_6 F s j (node_of F s j)))) row4)
 
-  pub node_serves : ((node_outcome F s j).number ≡ 0) ↔ (IsPrecision (precision_of F) × IsLongEnough F s × (j ≤ 2 ^ precision_of F) × (j < word_count F → IsRightAt F s j))
+  pub node_serves : ((node_outcome F s j).number ≡ 0) ↔ (IsOffered F × IsLongEnough F s × (j ≤ 2 ^ precision_of F) × (j < word_count F → IsRightAt F s j))
   node_serves =
-      joined (later_number F s (node_refusal (precision_of F) j ∷ word_refusal (table_of F) s j ∷ []) (node_of F s j) 0 tt tt)
+      joined (later_number F s (node_refusal (precision_of F) j ∷ word_refusal (table_of F) s j ∷ []) (node_of F s j) 0 tt tt tt)
       (joined (both same (both same (node_number_0 F s j (node_of F s j)))) row4)
 
-  pub node_numbers : T (is_one_of (node_outcome F s j).number (0 ∷ 1 ∷ 2 ∷ 3 ∷ 6 ∷ []))
-  node_numbers = listed (0 ∷ 1 ∷ 2 ∷ 3 ∷ 6 ∷ []) (node_refusals F s j) (node_of F s j) tt tt
+  pub node_numbers : T (is_one_of (node_outcome F s j).number (0 ∷ 1 ∷ 18 ∷ 2 ∷ 3 ∷ 6 ∷ []))
+  node_numbers = listed (0 ∷ 1 ∷ 18 ∷ 2 ∷ 3 ∷ 6 ∷ []) (node_refusals F s j) (node_of F s j) tt tt
 
   -- the place is 0 but under 6, and there it is node j
   pub node_place_0 : ((node_outcome F s j).number ≡ 6 → ⊥) → (node_outcome F s j).place ≡ 0
@@ -186,7 +197,7 @@ module _ (F : Format) (s : List ℕ) (j : ℕ) where
   pub node_refused_value : ((node_outcome F s j).number ≡ 0 → ⊥) → (node_outcome F s j).value ≡ 0
   node_refused_value = refused_value (node_refusals F s j) (node_of F s j)
 
-  pub node_served_value : (node_outcome F s j).number ≡ 0 → (node_outcome F s j).value ≡ node (precision_of F) j
+  pub node_served_value : (node_outcome F s j).number ≡ 0 → (node_outcome F s j).value ≡ node (precision_of F) (table_bits F) j
   node_served_value e =
       let t = node_serves.0 e in
       (served_value (node_refusals F s j) (node_of F s j) tt e).1 ∙ served_decodes F s j t.2 t.3
@@ -195,37 +206,40 @@ module _ (F : Format) (s : List ℕ) (j : ℕ) where
 module _ (F : Format) (s : List ℕ) (n X : ℕ) where
   -- the words that are read are those of node j and, where it has one, of node j + 1
   abbrev j : ℕ
-  j = node_number (precision_of F) (cut_operand (precision_of F) n X)
+  j = node_number (precision_of F) (input_bits F) (cut_operand (precision_of F) (input_bits F) n X)
 
   pub reciprocal_refuses_1 : ((reciprocal_outcome F s n X).number ≡ 1) ↔ (IsPrecision (precision_of F) → ⊥)
   reciprocal_refuses_1 = Reciprocals.reciprocal_1 F s n X
 
-  pub reciprocal_refuses_2 : ((reciprocal_outcome F s n X).number ≡ 2) ↔ (IsPrecision (precision_of F) × (length s < image_length F))
+  pub reciprocal_refuses_18 : ((reciprocal_outcome F s n X).number ≡ 18) ↔ (IsPrecision (precision_of F) × (AreGuardBits (table_bits F) (input_bits F) → ⊥))
+  reciprocal_refuses_18 = Reciprocals.reciprocal_18 F s n X
+
+  pub reciprocal_refuses_2 : ((reciprocal_outcome F s n X).number ≡ 2) ↔ (IsOffered F × (length s < image_length F))
   reciprocal_refuses_2 = Reciprocals.reciprocal_2 F s n X
 
   -- 4: n is below 1 or above 63
-  pub reciprocal_refuses_4 : ((reciprocal_outcome F s n X).number ≡ 4) ↔ (IsPrecision (precision_of F) × IsLongEnough F s × (IsFractionCount n → ⊥))
+  pub reciprocal_refuses_4 : ((reciprocal_outcome F s n X).number ≡ 4) ↔ (IsOffered F × IsLongEnough F s × (IsFractionCount n → ⊥))
   reciprocal_refuses_4 = Reciprocals.reciprocal_4 F s n X
 
   -- 5: X is not from 2^n to 2^(n+1) - 1
-  pub reciprocal_refuses_5 : ((reciprocal_outcome F s n X).number ≡ 5) ↔ (IsPrecision (precision_of F) × IsLongEnough F s × IsFractionCount n × (IsNormalised n X → ⊥))
+  pub reciprocal_refuses_5 : ((reciprocal_outcome F s n X).number ≡ 5) ↔ (IsOffered F × IsLongEnough F s × IsFractionCount n × (IsNormalised n X → ⊥))
   reciprocal_refuses_5 = Reciprocals.reciprocal_5 F s n X
 
   -- 6: one of the words that are read is not the construction's; where node j + 1 has none, as node 2^k in plain words, only the word of j is read
   pub reciprocal_refuses_6 : ((reciprocal_outcome F s n X).number ≡ 6)
-      ↔ (IsPrecision (precision_of F) × IsLongEnough F s × IsFractionCount n × IsNormalised n X × ((IsRightAt F s j → ⊥) ⊎ ((j + 1 < word_count F) × (IsRightAt F s (j + 1) → ⊥))))
+      ↔ (IsOffered F × IsLongEnough F s × IsFractionCount n × IsNormalised n X × ((IsRightAt F s j → ⊥) ⊎ ((j + 1 < word_count F) × (IsRightAt F s (j + 1) → ⊥))))
   reciprocal_refuses_6 = Reciprocals.reciprocal_6 F s n X
 
   pub reciprocal_serves : ((reciprocal_outcome F s n X).number ≡ 0)
-      ↔ (IsPrecision (precision_of F) × IsLongEnough F s × IsFractionCount n × IsNormalised n X × IsRightAt F s j × (j + 1 < word_count F → IsRightAt F s (j + 1)))
+      ↔ (IsOffered F × IsLongEnough F s × IsFractionCount n × IsNormalised n X × IsRightAt F s j × (j + 1 < word_count F → IsRightAt F s (j + 1)))
   reciprocal_serves = Reciprocals.reciprocal_0 F s n X
 
-  pub reciprocal_numbers : T (is_one_of (reciprocal_outcome F s n X).number (0 ∷ 1 ∷ 2 ∷ 4 ∷ 5 ∷ 6 ∷ []))
-  reciprocal_numbers = listed (0 ∷ 1 ∷ 2 ∷ 4 ∷ 5 ∷ 6 ∷ []) (reciprocal_refusals F s n X) (read_reciprocal F s (cut_operand (precision_of F) n X)) tt tt
+  pub reciprocal_numbers : T (is_one_of (reciprocal_outcome F s n X).number (0 ∷ 1 ∷ 18 ∷ 2 ∷ 4 ∷ 5 ∷ 6 ∷ []))
+  reciprocal_numbers = listed (0 ∷ 1 ∷ 18 ∷ 2 ∷ 4 ∷ 5 ∷ 6 ∷ []) (reciprocal_refusals F s n X) (read_reciprocal F s (cut_operand (precision_of F) (input_bits F) n X)) tt tt
 
   -- the place is 0 but under 6, and there it is the lowest node whose word is read and wrong: j, or j + 1 where the word of j is right
   pub reciprocal_place_0 : ((reciprocal_outcome F s n X).number ≡ 6 → ⊥) → (reciprocal_outcome F s n X).place ≡ 0
-  reciprocal_place_0 f = placed (6 ∷ []) (reciprocal_refusals F s n X) (read_reciprocal F s (cut_operand (precision_of F) n X)) tt (f, tt)
+  reciprocal_place_0 f = placed (6 ∷ []) (reciprocal_refusals F s n X) (read_reciprocal F s (cut_operand (precision_of F) (input_bits F) n X)) tt (f, tt)
 
   pub reciprocal_place_lower : (reciprocal_outcome F s n X).number ≡ 6 → (IsRightAt F s j → ⊥) → (reciprocal_outcome F s n X).place ≡ j
   reciprocal_place_lower = Reciprocals.lower_place F s n X
@@ -235,10 +249,10 @@ module _ (F : Format) (s : List ℕ) (n X : ℕ) where
 
   -- a refusal has the value 0; what is given otherwise is in Demand3
   pub reciprocal_refused_value : ((reciprocal_outcome F s n X).number ≡ 0 → ⊥) → (reciprocal_outcome F s n X).value ≡ 0
-  reciprocal_refused_value = refused_value (reciprocal_refusals F s n X) (read_reciprocal F s (cut_operand (precision_of F) n X))
+  reciprocal_refused_value = refused_value (reciprocal_refusals F s n X) (read_reciprocal F s (cut_operand (precision_of F) (input_bits F) n X))
 
   pub reciprocal_served_place : (reciprocal_outcome F s n X).number ≡ 0 → (reciprocal_outcome F s n X).place ≡ 0
-  reciprocal_served_place e = (served_value (reciprocal_refusals F s n X) (read_reciprocal F s (cut_operand (precision_of F) n X)) tt e).0
+  reciprocal_served_place e = (served_value (reciprocal_refusals F s n X) (read_reciprocal F s (cut_operand (precision_of F) (input_bits F) n X)) tt e).0
 
 -- Through a bound table. Making one has no number and refuses nothing; a node and the reciprocal through it are what the calls on an image give for
 -- its format and image, so that all that is said above of these calls is said of them through a table.
@@ -251,23 +265,23 @@ module _ (F : Format) (image : Bor (List ℕ)) where
 
 -- Showing the bytes of one word. That call has no numbers.
 module _ (F : Format) (s : List ℕ) (j : ℕ) where
-  -- an empty part exactly when refusal 1 or 2 applies or node j has no word: j is above 2^k - 1 in plain words, above 2^k in full ones
-  pub part_empty : (shown_part F s j ≡ []) ↔ ((IsPrecision (precision_of F) × IsLongEnough F s × (j < word_count F)) → ⊥)
+  -- an empty part exactly when refusal 1, 18 or 2 applies or node j has no word: j is above 2^k - 1 in plain words, above 2^k in full ones
+  pub part_empty : (shown_part F s j ≡ []) ↔ ((IsOffered F × IsLongEnough F s × (j < word_count F)) → ⊥)
   part_empty = shown_empty F s j
 
   -- so by its place and number: no bytes, at the front of the image
-  pub part_none : (shown_count F s j ≡ 0) ↔ ((IsPrecision (precision_of F) × IsLongEnough F s × (j < word_count F)) → ⊥)
+  pub part_none : (shown_count F s j ≡ 0) ↔ ((IsOffered F × IsLongEnough F s × (j < word_count F)) → ⊥)
   part_none = shown_none F s j
 
-  pub part_at_front : ((IsPrecision (precision_of F) × IsLongEnough F s × (j < word_count F)) → ⊥) → shown_from F s j ≡ 0
+  pub part_at_front : ((IsOffered F × IsLongEnough F s × (j < word_count F)) → ⊥) → shown_from F s j ≡ 0
   part_at_front = hidden_at_front F s j
 
   -- and otherwise it runs from byte floor(j × w / 8) to byte floor((j × w + w - 1) / 8), both included, of the caller's image
-  pub part_length : IsPrecision (precision_of F) → IsLongEnough F s → j < word_count F → length (shown_part F s j) ≡ (j * word_width F + word_width F - 1) / 8 + 1 - j * word_width F / 8
+  pub part_length : IsOffered F → IsLongEnough F s → j < word_count F → length (shown_part F s j) ≡ (j * word_width F + word_width F - 1) / 8 + 1 - j * word_width F / 8
   part_length = shown_length F s j
 
-  pub part_from : IsPrecision (precision_of F) → IsLongEnough F s → j < word_count F → shown_from F s j ≡ j * word_width F / 8
+  pub part_from : IsOffered F → IsLongEnough F s → j < word_count F → shown_from F s j ≡ j * word_width F / 8
   part_from = shown_first F s j
 
-  pub part_bytes : IsPrecision (precision_of F) → IsLongEnough F s → j < word_count F → (i : ℕ) → i < length (shown_part F s j) → get_or (shown_part F s j) i 0 ≡ get_or s (j * word_width F / 8 + i) 0
+  pub part_bytes : IsOffered F → IsLongEnough F s → j < word_count F → (i : ℕ) → i < length (shown_part F s j) → get_or (shown_part F s j) i 0 ≡ get_or s (j * word_width F / 8 + i) 0
   part_bytes = shown_bytes F s j

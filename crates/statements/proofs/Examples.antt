@@ -1,4 +1,4 @@
--- The set examples of document 01 that are marked P, those of document 02 for Q-2 and Q-7, ours for Q-1, Q-2 and Q-7, and the printed table hold of
+-- The set examples of document 01 that are marked P, those of document 02 for Q-2 and Q-7, ours for Q-1, Q-2, Q-7 and Q-14, and the printed table hold of
 -- the definitions that the contracts cite: one statement for all tables, by computation.
 -- Assumes nothing.
 use mathlib.Core.Path.{refl}
@@ -8,7 +8,7 @@ use Rattle.bools.specs.Lowest.{lowest}
 use Rattle.decimal.specs.Decimal.{digits, decimal}
 use Rattle.lines.specs.Lines.{line_reading, field}
 use Rattle.table_text.specs.TableText.{precision_of, line, lines, header, table_of, table_text}
-use Rattle.statements.specs.Examples.{length_examples, LengthHolds, image_examples, ImageHolds, rom_examples, RomHolds, fault_examples, FaultHolds, reciprocal_examples, ReciprocalHolds, refused_examples, RefusedHolds, text_examples, TextHolds, Each, ExamplesHold}
+use Rattle.statements.specs.Examples.{length_examples, LengthHolds, image_examples, ImageHolds, rom_examples, RomHolds, fault_examples, FaultHolds, dirty_examples, DirtyHolds, reciprocal_examples, ReciprocalHolds, refused_examples, RefusedHolds, limit_examples, LimitHolds, text_examples, TextHolds, Each, ExamplesHold}
 
 -- a row and those after it
 infixr 4 ◌also◌
@@ -18,12 +18,20 @@ a also b = (a, b)
 lengths_hold : Each LengthHolds length_examples
 lengths_hold =
     (refl, refl) also (refl, refl) also (refl, refl) also (refl, refl) also (refl, refl) also (refl, refl)
-    also (refl, refl) also (refl, refl) also (refl, refl) also (refl, refl) also (refl, refl) also (refl, refl) also tt
+    also (refl, refl) also (refl, refl) also (refl, refl) also (refl, refl) also (refl, refl) also (refl, refl)
+    also (refl, refl) also (refl, refl) also (refl, refl) also (refl, refl) also (refl, refl) also (refl, refl)
+    also (refl, refl) also (refl, refl) also tt
 
 images_hold : Each ImageHolds image_examples
 unfolding rounded_up word_at field_at lowest
 images_hold =
     record { answered = refl; built = refl; read = refl; passes = refl }
+    also record { answered = refl; built = refl; read = refl; passes = refl }
+    also record { answered = refl; built = refl; read = refl; passes = refl }
+    also record { answered = refl; built = refl; read = refl; passes = refl }
+    also record { answered = refl; built = refl; read = refl; passes = refl }
+    also record { answered = refl; built = refl; read = refl; passes = refl }
+    also record { answered = refl; built = refl; read = refl; passes = refl }
     also record { answered = refl; built = refl; read = refl; passes = refl }
     also record { answered = refl; built = refl; read = refl; passes = refl }
     also record { answered = refl; built = refl; read = refl; passes = refl }
@@ -35,11 +43,22 @@ unfolding rounded_up word_at field_at lowest
 roms_hold =
     record { answered = refl; built = refl; passes = refl }
     also record { answered = refl; built = refl; passes = refl }
+    also record { answered = refl; built = refl; passes = refl }
     also tt
 
 faults_hold : Each FaultHolds fault_examples
 unfolding rounded_up word_at field_at lowest
-faults_hold = refl also refl also refl also refl also refl also refl also refl also refl also refl also tt
+faults_hold =
+    refl also refl also refl also refl also refl also refl also refl also refl also refl
+    also refl also refl also refl also refl also refl also refl also refl also tt
+
+dirty_hold : Each DirtyHolds dirty_examples
+unfolding rounded_up word_at field_at lowest
+dirty_hold =
+    record { turned_back = refl; read = refl; given = refl }
+    also record { turned_back = refl; read = refl; given = refl }
+    also record { turned_back = refl; read = refl; given = refl }
+    also tt
 
 reciprocals_hold : Each ReciprocalHolds reciprocal_examples
 unfolding rounded_up word_at field_at
@@ -58,15 +77,40 @@ reciprocals_hold =
     also record { is_R = refl; given = refl; is_P = tt }
     also record { is_R = refl; given = refl; is_P = tt }
     also record { is_R = refl; given = refl; is_P = tt }
+    also record { is_R = refl; given = refl; is_P = refl also tt }
+    also record { is_R = refl; given = refl; is_P = tt }
+    also record { is_R = refl; given = refl; is_P = tt }
+    also record { is_R = refl; given = refl; is_P = tt }
+    also record { is_R = refl; given = refl; is_P = tt }
+    also record { is_R = refl; given = refl; is_P = tt }
+    also record { is_R = refl; given = refl; is_P = tt }
+    also record { is_R = refl; given = refl; is_P = tt }
+    also record { is_R = refl; given = refl; is_P = tt }
     also tt
 
 refusals_hold : Each RefusedHolds refused_examples
 unfolding rounded_up word_at field_at
 refusals_hold = refl also refl also refl also refl also refl also refl also refl also tt
 
+limits_hold : Each LimitHolds limit_examples
+limits_hold =
+    record { build = refl; leaves = refl; check = refl; node = refl; no_node = refl; operand = refl; no_operand = refl; part = refl }
+    also record { build = refl; leaves = refl; check = refl; node = refl; no_node = refl; operand = refl; no_operand = refl; part = refl }
+    also record { build = refl; leaves = refl; check = refl; node = refl; no_node = refl; operand = refl; no_operand = refl; part = refl }
+    also record { build = refl; leaves = refl; check = refl; node = refl; no_node = refl; operand = refl; no_operand = refl; part = refl }
+    also record { build = refl; leaves = refl; check = refl; node = refl; no_node = refl; operand = refl; no_operand = refl; part = refl }
+    also record { build = refl; leaves = refl; check = refl; node = refl; no_node = refl; operand = refl; no_operand = refl; part = refl }
+    also record { build = refl; leaves = refl; check = refl; node = refl; no_node = refl; operand = refl; no_operand = refl; part = refl }
+    also record { build = refl; leaves = refl; check = refl; node = refl; no_node = refl; operand = refl; no_operand = refl; part = refl }
+    also record { build = refl; leaves = refl; check = refl; node = refl; no_node = refl; operand = refl; no_operand = refl; part = refl }
+    also record { build = refl; leaves = refl; check = refl; node = refl; no_node = refl; operand = refl; no_operand = refl; part = refl }
+    also record { build = refl; leaves = refl; check = refl; node = refl; no_node = refl; operand = refl; no_operand = refl; part = refl }
+    also record { build = refl; leaves = refl; check = refl; node = refl; no_node = refl; operand = refl; no_operand = refl; part = refl }
+    also tt
+
 texts_hold : Each TextHolds text_examples
 unfolding precision_of line_reading digits decimal rounded_up field line lines header table_of table_text
 texts_hold = refl also refl also refl also tt
 
 pub examples_hold : ExamplesHold
-examples_hold = record { lengths = lengths_hold; images = images_hold; roms = roms_hold; faults = faults_hold; reciprocals = reciprocals_hold; refusals = refusals_hold; texts = texts_hold }
+examples_hold = record { lengths = lengths_hold; images = images_hold; roms = roms_hold; faults = faults_hold; dirty = dirty_hold; reciprocals = reciprocals_hold; refusals = refusals_hold; limits = limits_hold; texts = texts_hold }

@@ -13,8 +13,11 @@ use borrow.Author.Tests.{lt-ltb}
 use Rattle.bools.proofs.Bools.{clash, below_or_not}
 use Rattle.precision.specs.Precision.{in_range}
 use Rattle.precision.proofs.Range.{in-range, range_in}
-use Rattle.format.specs.Format.{precision_of, word_count}
+use Rattle.format.specs.GuardBits.{guards_in}
+use Rattle.format.specs.Format.{precision_of, word_count, is_offered}
 use Rattle.format.specs.declared.Format.{Format}
+use Rattle.format.specs.declared.guard_bits.GuardBits.{GuardBits}
+use Rattle.format.proofs.Range.{InRange, guards-in, in_guards}
 use Rattle.format.proofs.Laws.{count_most}
 use Rattle.tail.proofs.Bits.{before_first, at_first}
 use Rattle.layout.specs.Layout.{end_of, is_wrong, first_wrong, first_past}
@@ -22,7 +25,7 @@ use Rattle.layout.proofs.Laws.{not_wrong, right_not_wrong, all_right, wrong_ther
 use Rattle.image.specs.Image.{table_of}
 use Rattle.operand.specs.Operand.{is_fraction_count, is_normalised}
 use Rattle.operand.proofs.Laws.{count-in, in_count, normalised_in, in_normalised}
-use Rattle.statements.specs.Terms.{IsPrecision, IsRightAt, IsSetPast, IsTailZero, IsFractionCount, IsNormalised}
+use Rattle.statements.specs.Terms.{IsPrecision, AreGuardBits, IsOffered, IsRightAt, IsSetPast, IsTailZero, IsFractionCount, IsNormalised}
 
 pub joined : {A B C : Type 0} → A ↔ B → B ↔ C → A ↔ C
 joined f g = (λ a. g.0 (f.0 a), λ c. f.1 (g.1 c))
@@ -32,6 +35,10 @@ same = (λ a. a, λ a. a)
 
 pub both : {A B C D : Type 0} → A ↔ C → B ↔ D → (A × B) ↔ (C × D)
 both f g = (λ t. (f.0 t.0, g.0 t.1), λ t. (f.1 t.0, g.1 t.1))
+
+-- of what is not
+pub none : {A B : Type 0} → A ↔ B → (A → ⊥) ↔ (B → ⊥)
+none f = (λ n b. n (f.1 b), λ n a. n (f.0 a))
 
 -- under a fact that both sides share
 pub under : {A B C : Type 0} → (A → B ↔ C) → (A × B) ↔ (A × C)
@@ -52,6 +59,26 @@ row5 = (λ t. (t.0, t.1.0, t.1.1.0, t.1.1.1.0, t.1.1.1.1), λ t. (t.0, (t.1, (t.
 
 pub row6 : {A B C D E F : Type 0} → (A × (B × (C × (D × (E × F))))) ↔ (A × B × C × D × E × F)
 row6 = (λ t. (t.0, t.1.0, t.1.1.0, t.1.1.1.0, t.1.1.1.1.0, t.1.1.1.1.1), λ t. (t.0, (t.1, (t.2, (t.3, (t.4, t.5))))))
+
+-- the guard bits of document 01 can be ordered
+pub usual_guards : AreGuardBits 2 3
+usual_guards = (omega arith, omega arith, omega arith, omega arith)
+
+-- so a row that begins with the ranges of a format that has them says no more than its precision's
+pub usual2 : {P B : Type 0} → ((P × AreGuardBits 2 3) × B) ↔ (P × B)
+usual2 = (λ t. (t.0.0, t.1), λ t. ((t.0, usual_guards), t.1))
+
+pub usual3 : {P B C : Type 0} → ((P × AreGuardBits 2 3) × B × C) ↔ (P × B × C)
+usual3 = (λ t. (t.0.0, t.1, t.2), λ t. ((t.0, usual_guards), t.1, t.2))
+
+pub usual4 : {P B C D : Type 0} → ((P × AreGuardBits 2 3) × B × C × D) ↔ (P × B × C × D)
+usual4 = (λ t. (t.0.0, t.1, t.2, t.3), λ t. ((t.0, usual_guards), t.1, t.2, t.3))
+
+pub usual5 : {P B C D E : Type 0} → ((P × AreGuardBits 2 3) × B × C × D × E) ↔ (P × B × C × D × E)
+usual5 = (λ t. (t.0.0, t.1, t.2, t.3, t.4), λ t. ((t.0, usual_guards), t.1, t.2, t.3, t.4))
+
+pub usual6 : {P B C D E F : Type 0} → ((P × AreGuardBits 2 3) × B × C × D × E × F) ↔ (P × B × C × D × E × F)
+usual6 = (λ t. (t.0.0, t.1, t.2, t.3, t.4, t.5), λ t. ((t.0, usual_guards), t.1, t.2, t.3, t.4, t.5))
 
 -- a test that passed, as an equation, and the other way round
 pub passed : (b : Bool) → T b → b ≡ true
@@ -80,6 +107,34 @@ is_precision k = kept (in_range k) (in-range k) (λ p. range_in k p.0 p.1)
 
 pub no_precision : (k : ℕ) → T (not (in_range k)) ↔ (IsPrecision k → ⊥)
 no_precision k = broken (in_range k) (in-range k) (λ p. range_in k p.0 p.1)
+
+-- a and b are guard bits that can be ordered; by order alone, so that a term with other limits is refused with a number at which it is wrong
+guards_told : (g : GuardBits) → guards_in g ≡ true → AreGuardBits g.table g.input
+guards_told g e =
+    let r = guards-in g e in
+    (omega (arith, r.table_least), omega (arith, r.table_most), omega (arith, r.input_least), omega (arith, r.input_most))
+
+pub guards_of : (g : GuardBits) → AreGuardBits g.table g.input → InRange g
+guards_of g t =
+    record { table_least = omega (arith, t.0); table_most = omega (arith, t.1); input_least = omega (arith, t.2); input_most = omega (arith, t.3) }
+
+pub are_guards : (g : GuardBits) → T (not (not (guards_in g))) ↔ AreGuardBits g.table g.input
+are_guards g = kept (guards_in g) (guards_told g) (λ t. in_guards g (guards_of g t))
+
+pub no_guards : (g : GuardBits) → T (not (guards_in g)) ↔ (AreGuardBits g.table g.input → ⊥)
+no_guards g = broken (guards_in g) (guards_told g) (λ t. in_guards g (guards_of g t))
+
+-- a format can be ordered, by its test
+pub is_told : (F : Format) → IsOffered F → is_offered F ≡ true
+is_told F o = rw (range_in (precision_of F) o.0.0 o.0.1, in_guards F.guard_bits (guards_of F.guard_bits o.1))
+
+pub not_told : (F : Format) → (IsOffered F → ⊥) → is_offered F ≡ false
+not_told F f = by (in_range (precision_of F)) (guards_in F.guard_bits) refl refl
+  where
+    by : (x y : Bool) → in_range (precision_of F) ≡ x → guards_in F.guard_bits ≡ y → x && y ≡ false
+    by true true e d = absurd (f (in-range (precision_of F) e, guards_told F.guard_bits d))
+    by true false e d = refl
+    by false y e d = refl
 
 -- n is a count of fraction bits
 pub is_count : (n : ℕ) → T (not (not (is_fraction_count n))) ↔ IsFractionCount n

@@ -3,6 +3,8 @@ pub mod Demand2
 pub mod Demand3
 pub mod Plain
 pub mod Full
+pub mod Usual
+pub mod Guards
 pub mod Printed
 pub mod Examples
 pub mod Iff

@@ -2,8 +2,8 @@
 --
 -- 1. Input that is 1 to 9 decimal digits, leading zeros among them, and one line feed asks for the precision that they stand for:
 --    digits_request, number_requests. All other input counts as precision 0: request_digits.
--- 2. A precision gets its table, the first line and the lines of nodes 0 to 2^k: prints_table. Any other number, and input that is not such a
---    line, gets `refused 1`: prints_refusal, other_input. Numbers are printed in decimal: printed_digits.
+-- 2. A precision gets its table, that with two table guard bits: the first line and the lines of nodes 0 to 2^k, prints_table. Any other number, and input
+--    that is not such a line, gets `refused 1`: prints_refusal, other_input. Numbers are printed in decimal: printed_digits.
 -- 3. Each line ends in a line feed: node_line, first_line, refusal_line.
 -- 4. The program reads enough of its input, and its buffer is long enough: prefix_settles, text_has_room.
 --

@@ -12,7 +12,7 @@ use lib.Dec.{T, eqb}
 use lib.ListN.{length}
 use Rattle.answers.specs.Refusal.{Refusal, Outcome, outcome, served}
 use Rattle.answers.proofs.Order.{avoids, first, later, shared}
-use Rattle.format.specs.Format.{precision_of, word_count, image_length}
+use Rattle.format.specs.Format.{precision_of, table_bits, input_bits, word_count, image_length}
 use Rattle.format.proofs.Laws.{count_least}
 use Rattle.format.specs.declared.Format.{Format}
 use Rattle.nodes.specs.Nodes.{node}
@@ -29,9 +29,9 @@ use Rattle.interpolation.specs.Inner.{cut_outcome}
 use Rattle.interpolation.proofs.Bound.{reciprocal_low}
 use Rattle.interpolation.proofs.Answers.{first-wrong, next_wrong, none_wrong, read_right as gives-R}
 use Rattle.interpolation.proofs.Cut.{cut_index, cut_number_below, cut_node_falls, cut_fraction_below, difference_most, cut_reciprocal_least, cut_reciprocal_most, cut_reciprocal_last}
-use Rattle.statements.specs.Terms.{IsPrecision, IsLongEnough, IsRightAt, IsFractionCount, IsNormalised}
+use Rattle.statements.specs.Terms.{IsPrecision, AreGuardBits, IsOffered, IsLongEnough, IsRightAt, IsFractionCount, IsNormalised}
 use Rattle.statements.proofs.Iff.{joined, same, both, under, either, row3, row4, row5, row6, is_count, no_count, is-normalised, not_normalised, wrong_word, no_wrong_word, read_wrong, read_right}
-use Rattle.statements.proofs.Numbers.{alone, refuses_1, refuses_2, kept_answer, later_number}
+use Rattle.statements.proofs.Numbers.{alone, refuses_1, refuses_18, refuses_2, kept_answer, later_number}
 
 -- the limits of n and X before any list of refusals
 module _ (n X : ℕ) (rs : List Refusal) (v : ℕ) where
@@ -71,51 +71,61 @@ module _ (F : Format) (s : List ℕ) (j v : ℕ) (h : j < word_count F) where
       (both (joined (no_wrong_word F s j) (λ f. f h, λ r m. r))
       (joined (later 0 (word_refusal (table_of F) s (j + 1)) [] v tt) (joined alone (no_wrong_word F s (j + 1)))))
 
--- what holds of R and of its node, at every k
-module _ (k n X : ℕ) where
+-- what holds of t and of its node, at every k and with any input guard bits
+module _ (k b n X : ℕ) where
   abbrev j : ℕ
-  j = node_number k (cut_operand k n X)
+  j = node_number k b (cut_operand k b n X)
 
   -- the cut of a normalised operand is normalised
-  cut_in_range : IsNormalised n X → (2 ^ (2 * k + 3) ≤ cut_operand k n X) × (cut_operand k n X < 2 ^ (2 * k + 4))
-  cut_in_range o = cut_normalised k n X o.0 o.1
+  cut_in_range : IsNormalised n X → (2 ^ (2 * k + b) ≤ cut_operand k b n X) × (cut_operand k b n X < 2 ^ (2 * k + (b + 1)))
+  cut_in_range o = cut_normalised k b n X o.0 o.1
 
   -- so it leads to a node before the last, which has a word in every form
   pub before_last : IsNormalised n X → j < 2 ^ k
-  before_last o = let r = cut_in_range o in cut_number_below k (cut_operand k n X) r.0 r.1
+  before_last o = let r = cut_in_range o in cut_number_below k b (cut_operand k b n X) r.0 r.1
+
+-- and of R
+module _ (k a b n X : ℕ) where
+  abbrev c : ℕ → ℕ
+  c = node k a
+
+  abbrev t : ℕ
+  t = cut_operand k b n X
+
+  abbrev at : ℕ
+  at = j k b n X
 
   -- no difference of Algorithm 2 falls below 0
-  pub differences : IsNormalised n X
-      → (2 ^ k + j ≡ index k (cut_operand k n X)) × (j < 2 ^ k) × (node k (j + 1) ≤ node k j) × ((node k j - node k (j + 1)) * fraction k (cut_operand k n X) ≤ node k j * 2 ^ (k + 3))
+  pub differences : IsNormalised n X → (2 ^ k + at ≡ index k b t) × (at < 2 ^ k) × (c (at + 1) ≤ c at) × ((c at - c (at + 1)) * fraction k b t ≤ c at * 2 ^ (k + b))
   differences o =
-      let r = cut_in_range o in (
-        cut_index k (cut_operand k n X) r.0 r.1,
-        before_last o,
-        cut_node_falls k (cut_operand k n X),
-        difference_most k (node k j) (node k (j + 1)) (fraction k (cut_operand k n X)) (le_of_lt (cut_fraction_below k (cut_operand k n X))),
+      let r = cut_in_range k b n X o in (
+        cut_index k b t r.0 r.1,
+        before_last k b n X o,
+        cut_node_falls k a b t,
+        difference_most k b (c at) (c (at + 1)) (fraction k b t) (le_of_lt (cut_fraction_below k b t)),
       )
 
   -- R runs from 2^(2k) to 2^(2k+1)
-  pub reciprocal_least : IsNormalised n X → 2 ^ (2 * k) ≤ reciprocal k n X
-  reciprocal_least o = let r = cut_in_range o in cut_reciprocal_least k (cut_operand k n X) r.0 r.1
+  pub reciprocal_least : IsNormalised n X → 2 ^ (2 * k) ≤ reciprocal k a b n X
+  reciprocal_least o = let r = cut_in_range k b n X o in cut_reciprocal_least k a b t r.0 r.1
 
-  pub reciprocal_most : IsNormalised n X → reciprocal k n X ≤ 2 ^ (2 * k + 1)
-  reciprocal_most o = let r = cut_in_range o in cut_reciprocal_most k (cut_operand k n X) r.0 r.1
+  pub reciprocal_most : IsNormalised n X → reciprocal k a b n X ≤ 2 ^ (2 * k + 1)
+  reciprocal_most o = let r = cut_in_range k b n X o in cut_reciprocal_most k a b t r.0 r.1
 
   -- both ends are reached
-  pub reciprocal_of_greatest : 2 * k + 3 ≤ n → X + 1 ≡ 2 ^ (n + 1) → reciprocal k n X ≡ 2 ^ (2 * k)
-  reciprocal_of_greatest e last =
-      let one_more : 2 * k + 3 + 1 ≡ 2 * k + 4 = omega arith in
-      cut_reciprocal_last k (cut_operand k n X) (rw one_more at (cut_greatest (2 * k + 3) n e X last))
+  pub reciprocal_of_greatest : 1 ≤ b → 2 * k + b ≤ n → X + 1 ≡ 2 ^ (n + 1) → reciprocal k a b n X ≡ 2 ^ (2 * k)
+  reciprocal_of_greatest some e last =
+      let one_more : 2 * k + b + 1 ≡ 2 * k + (b + 1) = omega arith in
+      cut_reciprocal_last k a b t some (rw one_more at (cut_greatest (2 * k + b) n e X last))
 
-  pub reciprocal_of_least : X ≡ 2 ^ n → reciprocal k n X ≡ 2 ^ (2 * k + 1)
-  reciprocal_of_least one =
+  pub reciprocal_of_least : 2 ≤ a → 3 ≤ b → X ≡ 2 ^ n → reciprocal k a b n X ≡ 2 ^ (2 * k + 1)
+  reciprocal_of_least units steps one =
       let below : X < 2 ^ (n + 1) = omega (arith, one, pow-add 2 n 1, pow_pos n) in
       let least : 2 ^ n ≤ X = omega (arith, one) in
       let whole : 2 ^ (n + 2 * k + 1) ≡ 2 ^ (2 * k + 1) * X =
       ap (λ (x : ℕ). 2 ^ x) {x = n + 2 * k + 1} {y = 2 * k + 1 + n} (omega arith) ∙ pow-add 2 (2 * k + 1) n ∙ ap (λ (x : ℕ). 2 ^ (2 * k + 1) * x) (sym one) in
-      let reached : 2 ^ (2 * k + 1) < reciprocal k n X + 1 =
-      lt_of_mul-lt-mul_right X (omega (arith, whole, reciprocal_low k n X least below)) in
+      let reached : 2 ^ (2 * k + 1) < reciprocal k a b n X + 1 =
+      lt_of_mul-lt-mul_right X (omega (arith, whole, reciprocal_low k a b units steps n X least below)) in
       omega (arith, reached, reciprocal_most (least, below))
 
 -- the whole call
@@ -123,18 +133,24 @@ module _ (F : Format) (s : List ℕ) (n X : ℕ) where
   abbrev k : ℕ
   k = precision_of F
 
+  abbrev a : ℕ
+  a = table_bits F
+
+  abbrev b : ℕ
+  b = input_bits F
+
   -- the lower node of the piece to which X leads; it has a word in every form
   abbrev lower : ℕ
-  lower = j k n X
+  lower = j k b n X
 
   pub has_word : IsNormalised n X → lower < word_count F
-  has_word o = omega (arith, before_last k n X o, count_least F.form k)
+  has_word o = omega (arith, before_last k b n X o, count_least F.form k)
 
   abbrev v : ℕ
-  v = read_reciprocal F s (cut_operand k n X)
+  v = read_reciprocal F s (cut_operand k b n X)
 
   abbrev words_read : List Refusal
-  words_read = cut_refusals F s (cut_operand k n X)
+  words_read = cut_refusals F s (cut_operand k b n X)
 
   abbrev behind_limits : List Refusal
   behind_limits = fraction_refusal n ∷ operand_refusal n X ∷ words_read
@@ -143,43 +159,46 @@ module _ (F : Format) (s : List ℕ) (n X : ℕ) where
   pub reciprocal_1 : ((reciprocal_outcome F s n X).number ≡ 1) ↔ (IsPrecision k → ⊥)
   reciprocal_1 = refuses_1 F s behind_limits v tt
 
-  pub reciprocal_2 : ((reciprocal_outcome F s n X).number ≡ 2) ↔ (IsPrecision k × (length s < image_length F))
+  pub reciprocal_18 : ((reciprocal_outcome F s n X).number ≡ 18) ↔ (IsPrecision k × (AreGuardBits a b → ⊥))
+  reciprocal_18 = refuses_18 F s behind_limits v tt
+
+  pub reciprocal_2 : ((reciprocal_outcome F s n X).number ≡ 2) ↔ (IsOffered F × (length s < image_length F))
   reciprocal_2 = refuses_2 F s behind_limits v tt
 
-  pub reciprocal_4 : ((reciprocal_outcome F s n X).number ≡ 4) ↔ (IsPrecision k × IsLongEnough F s × (IsFractionCount n → ⊥))
-  reciprocal_4 = joined (later_number F s behind_limits v 4 tt tt) (joined (both same (both same (number_4 n X words_read v tt))) row3)
+  pub reciprocal_4 : ((reciprocal_outcome F s n X).number ≡ 4) ↔ (IsOffered F × IsLongEnough F s × (IsFractionCount n → ⊥))
+  reciprocal_4 = joined (later_number F s behind_limits v 4 tt tt tt) (joined (both same (both same (number_4 n X words_read v tt))) row3)
 
-  pub reciprocal_5 : ((reciprocal_outcome F s n X).number ≡ 5) ↔ (IsPrecision k × IsLongEnough F s × IsFractionCount n × (IsNormalised n X → ⊥))
-  reciprocal_5 = joined (later_number F s behind_limits v 5 tt tt) (joined (both same (both same (number_5 n X words_read v tt))) row4)
+  pub reciprocal_5 : ((reciprocal_outcome F s n X).number ≡ 5) ↔ (IsOffered F × IsLongEnough F s × IsFractionCount n × (IsNormalised n X → ⊥))
+  reciprocal_5 = joined (later_number F s behind_limits v 5 tt tt tt) (joined (both same (both same (number_5 n X words_read v tt))) row4)
 
   pub reciprocal_6 : ((reciprocal_outcome F s n X).number ≡ 6)
-      ↔ (IsPrecision k × IsLongEnough F s × IsFractionCount n × IsNormalised n X × ((IsRightAt F s lower → ⊥) ⊎ ((lower + 1 < word_count F) × (IsRightAt F s (lower + 1) → ⊥))))
+      ↔ (IsOffered F × IsLongEnough F s × IsFractionCount n × IsNormalised n X × ((IsRightAt F s lower → ⊥) ⊎ ((lower + 1 < word_count F) × (IsRightAt F s (lower + 1) → ⊥))))
   reciprocal_6 =
-      joined (later_number F s behind_limits v 6 tt tt)
+      joined (later_number F s behind_limits v 6 tt tt tt)
       (joined (both same (both same (joined (later_operand n X words_read v 6 tt tt) (under (λ c. under (λ o. words_6 F s lower v (has_word o))))))) row5)
 
   pub reciprocal_0 : ((reciprocal_outcome F s n X).number ≡ 0)
-      ↔ (IsPrecision k × IsLongEnough F s × IsFractionCount n × IsNormalised n X × IsRightAt F s lower × (lower + 1 < word_count F → IsRightAt F s (lower + 1)))
+      ↔ (IsOffered F × IsLongEnough F s × IsFractionCount n × IsNormalised n X × IsRightAt F s lower × (lower + 1 < word_count F → IsRightAt F s (lower + 1)))
   reciprocal_0 =
-      joined (later_number F s behind_limits v 0 tt tt)
+      joined (later_number F s behind_limits v 0 tt tt tt)
       (joined (both same (both same (joined (later_operand n X words_read v 0 tt tt) (under (λ c. under (λ o. words_0 F s lower v (has_word o))))))) row6)
 
   -- the whole answer with all limits kept: by the words of j and j + 1
-  module _ (p : IsPrecision k) (l : IsLongEnough F s) (c : IsFractionCount n) (o : IsNormalised n X) where
-    kept_cut : reciprocal_outcome F s n X ≡ cut_outcome F s (cut_operand k n X)
+  module _ (p : IsOffered F) (l : IsLongEnough F s) (c : IsFractionCount n) (o : IsNormalised n X) where
+    kept_cut : reciprocal_outcome F s n X ≡ cut_outcome F s (cut_operand k b n X)
     kept_cut = kept_answer F s behind_limits v p l ∙ kept_operand n X words_read v c o
 
     pub lower_named : (IsRightAt F s lower → ⊥) → reciprocal_outcome F s n X ≡ record { number = 6; place = lower; value = 0 }
-    lower_named f = kept_cut ∙ first-wrong F s (cut_operand k n X) (read_wrong F s lower (has_word o) f)
+    lower_named f = kept_cut ∙ first-wrong F s (cut_operand k b n X) (read_wrong F s lower (has_word o) f)
 
     pub upper_named : IsRightAt F s lower → lower + 1 < word_count F → (IsRightAt F s (lower + 1) → ⊥) → reciprocal_outcome F s n X ≡ record { number = 6; place = lower + 1; value = 0 }
-    upper_named r m f = kept_cut ∙ next_wrong F s (cut_operand k n X) (read_right F s lower (λ l. r)) (read_wrong F s (lower + 1) m f)
+    upper_named r m f = kept_cut ∙ next_wrong F s (cut_operand k b n X) (read_right F s lower (λ l. r)) (read_wrong F s (lower + 1) m f)
 
-    pub gives : IsRightAt F s lower → (lower + 1 < word_count F → IsRightAt F s (lower + 1)) → reciprocal_outcome F s n X ≡ served (reciprocal k n X)
+    pub gives : IsRightAt F s lower → (lower + 1 < word_count F → IsRightAt F s (lower + 1)) → reciprocal_outcome F s n X ≡ served (reciprocal k a b n X)
     gives r q =
-        let a = read_right F s lower (λ l. r) in
-        let b = read_right F s (lower + 1) q in
-        kept_cut ∙ none_wrong F s (cut_operand k n X) a b ∙ ap served (gives-R F s (cut_operand k n X) a b (before_last k n X o))
+        let first = read_right F s lower (λ l. r) in
+        let next = read_right F s (lower + 1) q in
+        kept_cut ∙ none_wrong F s (cut_operand k b n X) first next ∙ ap served (gives-R F s (cut_operand k b n X) first next (before_last k b n X o))
 
   -- the place under 6
   pub lower_place : (reciprocal_outcome F s n X).number ≡ 6 → (IsRightAt F s lower → ⊥) → (reciprocal_outcome F s n X).place ≡ lower
@@ -195,11 +214,11 @@ module _ (F : Format) (s : List ℕ) (n X : ℕ) where
       t.4
 
   -- what is given is R
-  pub given_right : (reciprocal_outcome F s n X).number ≡ 0 → (reciprocal_outcome F s n X).value ≡ reciprocal k n X
+  pub given_right : (reciprocal_outcome F s n X).number ≡ 0 → (reciprocal_outcome F s n X).value ≡ reciprocal k a b n X
   given_right e =
       let t = reciprocal_0.0 e in
       ap (λ (a : Outcome). a.value) (gives t.0 t.1 t.2 t.3 t.4 t.5)
 
-  -- and has what R has for every operand in range
-  pub given_has : (reciprocal_outcome F s n X).number ≡ 0 → (Q : ℕ → Type 0) → (2 ^ n ≤ X → X < 2 ^ (n + 1) → Q (reciprocal k n X)) → Q (reciprocal_outcome F s n X).value
-  given_has e Q holds = let t = reciprocal_0.0 e in rw (given_right e) (holds t.3.0 t.3.1)
+  -- and has what R has for all guard bits and every operand in range
+  pub given_has : (reciprocal_outcome F s n X).number ≡ 0 → (Q : ℕ → Type 0) → (AreGuardBits a b → 2 ^ n ≤ X → X < 2 ^ (n + 1) → Q (reciprocal k a b n X)) → Q (reciprocal_outcome F s n X).value
+  given_has e Q holds = let t = reciprocal_0.0 e in rw (given_right e) (holds t.0.1 t.3.0 t.3.1)

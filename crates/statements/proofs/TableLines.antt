@@ -14,15 +14,15 @@ use Rattle.table_text.specs.TableText.{hyphen_text, word_field, line, precision_
 line_word : (k j : ℕ) → IsLine (word_field k j)
 line_word k j = go (eqb j (2 ^ k))
   where
-    go : (b : Bool) → IsLine (cond b hyphen_text (field (stored_word k j) line_feed))
+    go : (b : Bool) → IsLine (cond b hyphen_text (field (stored_word k 2 j) line_feed))
     go true = (45 ∷ [], refl, none_in_literal (45 ∷ []) refl)
-    go false = line_field (stored_word k j)
+    go false = line_field (stored_word k 2 j)
 
 pub line_of_node : (k j : ℕ) → IsLine (line k j)
 unfolding line
 line_of_node k j =
-    line_after (field j space ++ field (node k j) space) (word_field k j)
-    (none_in_both (field j space) (field (node k j) space) (none_in_field j) (none_in_field (node k j)))
+    line_after (field j space ++ field (node k 2 j) space) (word_field k j)
+    (none_in_both (field j space) (field (node k 2 j) space) (none_in_field j) (none_in_field (node k 2 j)))
     (line_word k j)
 
 pub line_of_header : (k : ℕ) → IsLine (header k)
