@@ -6,11 +6,12 @@ import random
 import re
 import subprocess
 import time
+from collections import Counter
 from fractions import Fraction
 
 import reference
 import script
-from reference import FULL
+from reference import FULL, PLAIN
 
 ROOT = pathlib.Path(__file__).resolve().parent.parent
 
@@ -80,9 +81,9 @@ def printed_output():
 
 
 def random_operands(rng, k):
-    """The numbers of a line of operands, but for the form: often near a node, often with fraction bits that can be served, as many as the table looks at, fewer
-    or more."""
-    n = rng.choice([0, 1, k, k + 1, 2 * k + 2, 2 * k + 3, 2 * k + 3, 2 * k + 4, 31, 32, 52, 62, 63, 63, 64, rng.randrange(70)])
+    """The numbers of a line of operands, but for those of the table: often near a node, often with fraction bits that can be served, as many as
+    the table looks at, fewer or more."""
+    n = rng.choice([0, 1, k, k + 1, 2 * k + 2, 2 * k + 3, 2 * k + 3, 2 * k + 4, 2 * k + 5, 2 * k + 6, 31, 32, 52, 62, 63, 63, 64, rng.randrange(70)])
     n = min(n, 2 ** 32 - 1)
     least = 2 ** min(n, 64)
     nodes = 2 ** min(k, n, 12)  # that have an operand, but for the last one
@@ -93,15 +94,24 @@ def random_operands(rng, k):
     return f"{k} {n} {x % 2 ** 64} {rng.randint(0, 6)} {step % 2 ** 64}"
 
 
+def random_guard_bits(rng):
+    """Table guard bits and input guard bits: half of them two and three, most of the others in range, some just out of it or far."""
+    far = rng.choice([(rng.choice([0, 258, 4294967295]), 3), (2, rng.choice([0, 259, 4294967295]))])
+    near, inside = (rng.randint(1, 5), rng.randint(2, 6)), (rng.randint(2, 4), rng.randint(3, 5))
+    return rng.choice([(2, 3)] * 6 + [inside] * 4 + [near, far])
+
+
 def random_line(rng):
-    """A line of a script, or a few: mostly small precisions, either form, often an image, often slightly damaged, at any length; a full
+    """A line of a script, or a few: mostly small precisions, either form, any guard bits, often an image, often slightly damaged, at any length; a full
     ROM, and one with a byte of it changed."""
     form = rng.choice([0, 0, 0, 0, 1, 1, 1, rng.choice([2, 256, 4294967295])])
+    a, b = random_guard_bits(rng)
+    table = f"{form}" if (a, b) == (2, 3) and rng.randrange(4) else f"{form} {a} {b}"
     k = rng.choice([0, 1, 1, 2, 2, 2, 3, 3, 4, 5, 6, 8, 12, 13, 4294967295])
     last = 2 ** k if k <= 12 else 4
     first = rng.choice([0, rng.randint(0, last), last - 1, last, last + 1, rng.randint(0, 2 ** 32 - 1)])
     to = min(first + rng.randint(0, 5), 2 ** 32 - 1)
-    size = reference.length(k, form) if reference.in_range(k) else 4
+    size = reference.call_image_length(k, form, a, b) or 4
     kind = rng.choice(["hex", "hex", "image", "image", "xor", "xor", "length", "length", "fill", "build", "check", "check", "node",
                        "node", "word", "rule", "precision", "format", "show", "kept", "invert", "around", "through", "served", "served",
                        "served", "rom", "rom", "rom"])
@@ -109,25 +119,25 @@ def random_line(rng):
     changed = rng.choice([size, rng.randint(size, rom), rom - 1, rom, rng.randrange(rom)])
     return {
         "hex": "hex " + " ".join(f"{rng.randrange(256):02X}" for _ in range(rng.randint(1, 9))),
-        "image": f"length {size}\nbuild {k} {form}",
+        "image": f"length {size}\nbuild {k} {table}",
         "xor": f"xor {rng.randrange(rng.choice([1, 3, 8, 20, 16384]))} {rng.choice([1, 2, 4, 8, 16, 32, 64, 128, 255])}",
         "length": f"length {rng.choice([0, max(size - 1, 0), size, size + 1, rng.randint(0, 40), 16384])}",
         "fill": f"fill {rng.randrange(256)} {rng.choice([0, 1, rng.randrange(256)])}",
-        "build": f"build {rng.choice([0, 1, 2, 3, 4, 13])} {form}\nshow",
-        "check": f"check {k} {rng.choice([0, min(k + 3, 2 ** 32 - 1)])} {form}",
-        "node": f"node {first} {to} {k} {form}",
-        "word": f"word {first} {to} {k} {form}",
+        "build": f"build {rng.choice([0, 1, 2, 3, 4, 13])} {table}\nshow",
+        "check": f"check {k} {rng.choice([0, min(k + 3, 2 ** 32 - 1)])} {table}",
+        "node": f"node {first} {to} {k} {table}",
+        "word": f"word {first} {to} {k} {table}",
         "rule": f"rule {first} {to} {k}",
-        "precision": f"precision {k}",
-        "format": f"format {k} 0 {form}",
+        "precision": f"precision {k} 0 {a}",
+        "format": f"format {k} 0 {table}",
         "show": "show",
-        "kept": f"kept {first} {to} {k} {form}",
-        "invert": f"invert {random_operands(rng, k)} {form}",
-        "around": f"around {random_operands(rng, k)} {form}",
-        "through": f"through {random_operands(rng, k)} {form}",
-        "rom": f"length {rom}\nbuild {k} {form}\ncheck {k} 0 {form}\nxor {min(changed, 16383)} {rng.randint(1, 255)}\n"
-               f"check {k} 0 {form}\nnode {first} {to} {k} {form}",
-        "served": f"length {size}\nbuild {k} {form}\ninvert {random_operands(rng, k)} {form}",
+        "kept": f"kept {first} {to} {k} {table}",
+        "invert": f"invert {random_operands(rng, k)} {table}",
+        "around": f"around {random_operands(rng, k)} {table}",
+        "through": f"through {random_operands(rng, k)} {table}",
+        "rom": f"length {rom}\nbuild {k} {table}\ncheck {k} 0 {table}\nxor {min(changed, 16383)} {rng.randint(1, 255)}\n"
+               f"check {k} 0 {table}\nnode {first} {to} {k} {table}",
+        "served": f"length {size}\nbuild {k} {table}\ninvert {random_operands(rng, k)} {table}",
     }[kind]
 
 
@@ -138,49 +148,56 @@ def random_scripts(seed):
 
 
 def reciprocals(output):
-    """Each answer of a reciprocal that `cases` printed: the lent bytes, by the line that last changed them, and the form that they are taken
-    in; K, N, the operand, its number, its place and its value."""
+    """Each answer of a reciprocal that `cases` printed: the lent bytes, by the line that last changed them; the table that they are taken for, as
+    whether it is full, A and B; K, N, the operand, its number, its place and its value."""
     changed, numbers = 0, None
     for at, line in enumerate(output.decode().splitlines()):
         word, *rest = line.split(" ")
         if word:
-            numbers = rest[:2] if word in ("invert", "around", "through") else None
-            full = rest[5:6] not in ([], ["0"])
+            numbers = rest if word in ("invert", "around", "through") else None
             changed = at if word in ("hex", "fill", "xor", "length", "build") else changed
         elif numbers:
-            yield ((changed, full), *map(int, numbers), *map(int, rest))
+            k, n = map(int, numbers[:2])
+            form, a, b = map(int, numbers[5:] + ["0", "2", "3"][len(numbers[5:]):])
+            yield changed, (form != 0, a, b), k, n, *map(int, rest)
 
 
 def less_than_an_ulp():
-    """Each reciprocal that the program gives, and there are many, also of short operands and by full words, is less than an ulp from the exact one."""
-    given = [(full, k, n, x, value) for (_, full), k, n, x, number, _, value in reciprocals(printed()) if number == 0]
-    for _, k, n, x, value in given:
+    """Each reciprocal that the program gives, and there are many, also of short operands, by full words and with any guard bits, is less than an
+    ulp from the exact one."""
+    given = [(table, k, n, x, value) for _, table, k, n, x, number, _, value in reciprocals(printed()) if number == 0]
+    for table, k, n, x, value in given:
         if abs(Fraction(value, 2 ** (2 * k + 1)) - Fraction(2 ** n, x)) >= Fraction(1, 2 ** (2 * k + 1)):
-            return f"precision {k}, {x} with {n} fraction bits: {value}"
-    short = sum(n < 2 * k + 3 for _, k, n, _, _ in given)
-    full = sum(full for full, *_ in given)
-    enough = len(given) > 5000 and short > 3000 and full > 2000
-    return None if enough else f"only {len(given)} are given, {short} of short operands, {full} by full words"
+            return f"precision {k}, {table}, {x} with {n} fraction bits: {value}"
+    short = sum(n < 2 * k + b for (_, _, b), k, n, _, _ in given)
+    full = sum(full for (full, _, _), *_ in given)
+    each = Counter(table for table, *_ in given)
+    enough = len(given) > 5000 and short > 3000 and full > 2000 and all(each[full, a, b] > 100 for full in (False, True) for a, b in script.GUARD_BITS)
+    return None if enough else f"only {len(given)} are given, {short} of short operands, {full} by full words, {each}"
 
 
 def bits_to_the_right():
-    """Operands whose first 2k + 3 fraction bits are the same, zeros standing for those that a short one does not have, get the same answer
+    """Operands whose first 2k + b fraction bits are the same, zeros standing for those that a short one does not have, get the same answer
     from the same bytes, refusals included."""
     found = {}
-    for changed, k, n, x, *answer in reciprocals(printed()):
-        if reference.in_range(k) and reference.LEAST_BITS <= n <= reference.MOST_BITS:
-            begins = math.floor(Fraction(x, 2 ** n) * 2 ** (2 * k + 3))
-            found.setdefault((changed, k, begins), {}).setdefault(tuple(answer), set()).add(n)
-    for (_, k, begins), answers in found.items():
+    for changed, table, k, n, x, *answer in reciprocals(printed()):
+        b = table[-1]
+        if not reference.first_of_format(k, *table[1:]) and reference.LEAST_BITS <= n <= reference.MOST_BITS:
+            begins = math.floor(Fraction(x, 2 ** n) * 2 ** (2 * k + b))
+            found.setdefault((changed, table, k, begins), {}).setdefault(tuple(answer), set()).add(n)
+    for (_, table, k, begins), answers in found.items():
         if len(answers) > 1:
-            return f"precision {k}, operands that begin with the bits {begins:b}: {answers}"
-    lengths = [(answer[0], 2 * k + 3, bits) for (_, k, _), answers in found.items() for answer, bits in answers.items()]
-    several = {
-        "two that are cut": {number for number, cut, bits in lengths if len([n for n in bits if n > cut]) > 1},
-        "a short one and one that is cut": {number for number, cut, bits in lengths if min(bits) < cut < max(bits)},
-        "two short ones": {number for number, cut, bits in lengths if len([n for n in bits if n < cut]) > 1},
-    }
-    bad = [f"{which}: {numbers}" for which, numbers in several.items() if numbers != {0, 5, 6}]
+            return f"precision {k}, {table}, operands that begin with the bits {begins:b}: {answers}"
+    lengths = [(b, answer[0], 2 * k + b, bits) for (_, (_, _, b), k, _), answers in found.items() for answer, bits in answers.items()]
+    bad = []
+    for b in (3, 4, 5):
+        own = [rest for input_bits, *rest in lengths if input_bits == b]
+        several = {
+            "two that are cut": {number for number, cut, bits in own if len([n for n in bits if n > cut]) > 1},
+            "a short one and one that is cut": {number for number, cut, bits in own if min(bits) < cut < max(bits)},
+            "two short ones": {number for number, cut, bits in own if len([n for n in bits if n < cut]) > 1},
+        }
+        bad += [f"{which} with {b} input guard bits: {numbers}" for which, numbers in several.items() if numbers != {0, 5, 6}]
     return f"operands of several lengths get only the numbers of {bad}" if bad else None
 
 
@@ -193,27 +210,29 @@ def bound_table():
         word, _, rest = each.partition(" ")
         if word in itself:
             name, before = itself[word]
-            seen.add((word, len(rest.partition("\n")[0].split(" ")) > before))
+            seen.add((word, max(0, len(rest.partition("\n")[0].split(" ")) - before)))
             if above != f"{name} {rest}":
                 return f"{each}, below {above}"
-    wanted = {(word, full) for word in itself for full in (False, True)}
+    wanted = {(word, more) for word in itself for more in (0, 1, 3)}  # plain words, a form, a form and guard bits
     return None if seen == wanted else f"asked were only {seen}"
 
 
 # ---- what the documents say
 
 def document_examples():
-    """The examples and limits of document 01 for the image, those of Q-2 and Q-7 among them, and the P that it names, by the reference."""
-    nodes = {1: [32, 22, 16], 2: [128, 103, 86, 74, 64], 3: [512, 456, 410, 373, 342, 316, 293, 274, 256]}
-    images = {1: "06", 2: "02 75 8A", 3: "00 C8 9A 75 56 3C 25 12"}
-    for k in (1, 2, 3):
-        if [reference.node(k, j) for j in range(2 ** k + 1)] != nodes[k]:
-            return f"the nodes of precision {k}"
-        if reference.image(k) != bytes.fromhex(images[k]):
-            return f"the image of precision {k}"
-    if [reference.image(k, FULL) for k in (1, 2)] != [bytes.fromhex("816400"), bytes.fromhex("8067564A40")]:
-        return "the full images of precisions 1 and 2"
-    two, full = bytes.fromhex("02758A"), bytes.fromhex("8067564A40")
+    """The examples and limits of document 01 for the image, those of Q-2, Q-7 and Q-14 among them, and the P that it names, by the reference."""
+    nodes = {(1, 2): [32, 22, 16], (2, 2): [128, 103, 86, 74, 64], (3, 2): [512, 456, 410, 373, 342, 316, 293, 274, 256],
+             (1, 3): [64, 43, 32], (1, 4): [128, 86, 64], (2, 3): [256, 205, 171, 147, 128], (2, 4): [512, 410, 342, 293, 256]}
+    images = {(1, PLAIN, 2): "06", (2, PLAIN, 2): "02 75 8A", (3, PLAIN, 2): "00 C8 9A 75 56 3C 25 12", (1, FULL, 2): "81 64 00",
+              (2, FULL, 2): "80 67 56 4A 40", (1, PLAIN, 3): "02 C0", (1, PLAIN, 4): "01 60", (2, PLAIN, 3): "01 35 59 30",
+              (2, PLAIN, 4): "00 9A 56 25", (1, FULL, 3): "80 AD 00", (1, FULL, 4): "80 56 40", (2, FULL, 3): "80 33 55 69 34 00"}
+    for (k, a), values in nodes.items():
+        if [reference.node(k, j, a) for j in range(2 ** k + 1)] != values:
+            return f"the nodes of precision {k} with {a} table guard bits"
+    for table, data in images.items():
+        if reference.image(*table) != bytes.fromhex(data):
+            return f"the image of {table}"
+    two, full, three = bytes.fromhex("02758A"), bytes.fromhex("8067564A40"), bytes.fromhex("02C0")
     limits = [
         (reference.call_check(0, two), (1, 0, 0)),
         (reference.call_check(13, bytes(20000)), (1, 0, 0)),
@@ -246,6 +265,31 @@ def document_examples():
         (reference.call_check(1, bytes.fromhex("816401"), FULL), (7, 2, 0)),
         (reference.call_check(1, bytes.fromhex("81642001"), FULL), (7, 2, 0)),
         (reference.call_check(1, bytes.fromhex("81640001"), FULL), (7, 3, 0)),
+        (reference.call_image_length(12, FULL, 4, 5), 15364),
+        (reference.call_image_length(12, PLAIN, 4), 14336),
+        (reference.call_image_length(1, PLAIN, 3), 2),
+        (reference.call_image_length(0), 0),
+        (reference.call_image_length(13, FULL, 4, 5), 0),
+        (reference.call_image_length(2, PLAIN, 1), 0),
+        (reference.call_image_length(2, FULL, 5), 0),
+        (reference.call_image_length(2, PLAIN, 2, 2), 0),
+        (reference.call_image_length(2, FULL, 2, 6), 0),
+        (reference.call_build(1, b"\xa5" * 3, PLAIN, 3), ((0, 0, 0), three + b"\0")),
+        (reference.call_build(1, three[:1], PLAIN, 3), ((2, 0, 0), three[:1])),
+        (reference.call_build(1, three, PLAIN, 1), ((18, 0, 0), three)),
+        (reference.call_build(1, b"", PLAIN, 2, 6), ((18, 0, 0), b"")),
+        (reference.call_build(13, b"", PLAIN, 2, 6), ((1, 0, 0), b"")),
+        (reference.call_check(1, bytes.fromhex("02FF"), PLAIN, 3), (7, 1, 0)),
+        (reference.call_check(1, bytes.fromhex("016F"), PLAIN, 4), (7, 1, 0)),
+        (reference.call_check(2, bytes.fromhex("0135593F"), PLAIN, 3), (7, 3, 0)),
+        (reference.call_check(1, three, PLAIN, 5, 3), (18, 0, 0)),
+        (reference.call_node(1, bytes.fromhex("02FF"), 2, PLAIN, 3), (0, 0, 32)),
+        (reference.call_node(1, three, 2, PLAIN, 3, 2), (18, 0, 0)),
+        (reference.call_reciprocal(1, bytes.fromhex("02FF"), 5, 63, PLAIN, 3), (0, 0, 4)),
+        (reference.call_reciprocal(1, three, 0, 63, PLAIN, 3, 6), (18, 0, 0)),
+        (reference.call_word_bytes(1, three, 1, PLAIN, 3), three),
+        (reference.call_word_bytes(1, three, 2, PLAIN, 3), b""),
+        (reference.call_word_bytes(1, three, 1, PLAIN, 3, 2), b""),
     ]
     for number, (found, expected) in enumerate(limits):
         if found != expected:
@@ -254,11 +298,11 @@ def document_examples():
 
 
 def document_cases(output):
-    """tests/document01.txt has the cases of document 01 for reciprocals and those of Q-2 and Q-7, as `cases` must print them, and says where
+    """tests/document01.txt has the cases of document 01 for reciprocals and those of Q-2, Q-7 and Q-14, as `cases` must print them, and says where
     their answers are from. It must be printed as it stands, with no line between and none after its last case."""
     document = (ROOT / "tests" / "document01.txt").read_bytes()
     cases = re.findall(rb"^#.*\n(?!#)", document, re.M)
-    if len(cases) != 56:
+    if len(cases) != 80:
         return f"there are {len(cases)} cases"
     below = output.split(script.MARK.encode(), 1)[1]
     return same(below[:len(document) + 1], document + b"#")
@@ -420,9 +464,9 @@ def one_command():
 
 
 def tests():
-    yield "document 01: the examples and limits of the image, those of Q-2 and Q-7, and P of 135, by the reference", document_examples
-    yield "document 01: its cases for reciprocals and those of Q-2 and Q-7, by the reference", lambda: document_cases(expected())
-    yield "document 01: its cases for reciprocals and those of Q-2 and Q-7, by the program", lambda: document_cases(printed())
+    yield "document 01: the examples and limits of the image, those of Q-2, Q-7 and Q-14, and P of 135, by the reference", document_examples
+    yield "document 01: its cases for reciprocals and those of Q-2, Q-7 and Q-14, by the reference", lambda: document_cases(expected())
+    yield "document 01: its cases for reciprocals and those of Q-2, Q-7 and Q-14, by the program", lambda: document_cases(printed())
     yield "document 01: the printed table of precision 2, by the reference", document_table
     yield "cases: the stored script below its mark is what tests/script.py writes", stored_script
     yield "cases: the stored output is what the reference writes", stored_output
@@ -430,7 +474,7 @@ def tests():
     for seed in range(12):
         yield f"cases: 400 random lines, seed {seed}", lambda seed=seed: random_scripts(seed)
     yield "cases: each reciprocal given is less than an ulp off", less_than_an_ulp
-    yield "cases: operands with the same first 2k + 3 fraction bits get the same answer", bits_to_the_right
+    yield "cases: operands with the same first 2k + b fraction bits get the same answer", bits_to_the_right
     yield "cases: a bound table gives what the calls on its image give", bound_table
     yield "Table 1 of document 002: the reference", table1_reference
     yield "Table 1 of document 002: the program", table1_program

@@ -13,28 +13,35 @@ import sys
 from fractions import Fraction
 
 LEAST, GREATEST = 1, 12
+LEAST_TABLE, GREATEST_TABLE = 2, 4  # a, the table guard bits
+LEAST_INPUT, GREATEST_INPUT = 3, 5  # b, the input guard bits
 LEAST_BITS, MOST_BITS = 1, 63  # of an operand's fraction
-LENGTHS = [1, 3, 8, 20, 48, 112, 256, 576, 1280, 2816, 6144, 13312]  # of the plain images, as document 01 lists them
+LENGTHS = [1, 3, 8, 20, 48, 112, 256, 576, 1280, 2816, 6144, 13312]  # of the plain images at a = 2, as document 01 lists them
 PLAIN, FULL = 0, 1  # the forms; as from C, any number but 0 is full
 
 
 # ---- the meaning
 #
-# A table is that of a precision k, and of a form where it has words. The form is the last parameter, and is plain where it is left out.
+# A table is that of a precision k, of a form where it has words, of a table guard bits, and of b input guard bits where there are operands. The form,
+# a and b are the last parameters in this order; left out, they are plain, 2 and 3.
 
 def in_range(k):
     return LEAST <= k <= GREATEST
 
 
+def guard_bits_in_range(a, b):
+    return LEAST_TABLE <= a <= GREATEST_TABLE and LEAST_INPUT <= b <= GREATEST_INPUT
+
+
 @functools.lru_cache(maxsize=None)
-def node(k, j):
-    """c(j): 2^(3k+3) / i, rounded up, where i = 2^k + j."""
-    return math.ceil(Fraction(2 ** (3 * k + 3)) / Fraction(2 ** k + j))
+def node(k, j, a=2):
+    """c(j): 2^(3k+a+1) / i, rounded up, where i = 2^k + j."""
+    return math.ceil(Fraction(2 ** (3 * k + a + 1)) / Fraction(2 ** k + j))
 
 
-def width(k, form=PLAIN):
+def width(k, form=PLAIN, a=2):
     """The bits of a word."""
-    return 2 * k + 4 if form else 2 * k + 2
+    return 2 * k + a + 2 if form else 2 * k + a
 
 
 def count(k, form=PLAIN):
@@ -42,27 +49,27 @@ def count(k, form=PLAIN):
     return 2 ** k + 1 if form else 2 ** k
 
 
-def bit_count(k, form=PLAIN):
+def bit_count(k, form=PLAIN, a=2):
     """The bits that the words of an image are."""
-    return count(k, form) * width(k, form)
+    return count(k, form) * width(k, form, a)
 
 
-def length(k, form=PLAIN):
+def length(k, form=PLAIN, a=2):
     """The bytes of an image."""
-    return math.ceil(Fraction(bit_count(k, form), 8))
+    return math.ceil(Fraction(bit_count(k, form, a), 8))
 
 
-def stored(k, j, form=PLAIN):
-    """The word of node j, as a string of bits, most significant first: the last ones of c(j), and in the full form all 2k + 4."""
-    return format(node(k, j), "b").zfill(2 * k + 4)[-width(k, form):]
+def stored(k, j, form=PLAIN, a=2):
+    """The word of node j, as a string of bits, most significant first: the last ones of c(j), and in the full form all 2k + a + 2."""
+    return format(node(k, j, a), "b").zfill(2 * k + a + 2)[-width(k, form, a):]
 
 
 @functools.lru_cache(maxsize=None)
-def image(k, form=PLAIN):
+def image(k, form=PLAIN, a=2):
     """The words in node order, one right behind another, then zeros to the end of a byte, cut into bytes."""
-    bits = "".join(stored(k, j, form) for j in range(count(k, form)))
+    bits = "".join(stored(k, j, form, a) for j in range(count(k, form)))
     bits += "0" * (-len(bits) % 8)
-    assert form or len(bits) == 8 * LENGTHS[k - 1]
+    assert form or a != 2 or len(bits) == 8 * LENGTHS[k - 1]
     return bytes(int(bits[at:at + 8], 2) for at in range(0, len(bits), 8))
 
 
@@ -71,23 +78,23 @@ def bits_of(buffer):
     return "".join(format(byte, "08b") for byte in buffer)
 
 
-def tail_is_not_zero(k, buffer, form=PLAIN):
+def tail_is_not_zero(k, buffer, form=PLAIN, a=2):
     """The lowest byte in which a bit behind the words is one, and none where all are zeros: the byte of the first such bit."""
-    one = bits_of(buffer).find("1", bit_count(k, form))
+    one = bits_of(buffer).find("1", bit_count(k, form, a))
     return [] if one < 0 else [one // 8]
 
 
-def word_is_wrong(k, buffer, j, form=PLAIN):
+def word_is_wrong(k, buffer, j, form=PLAIN, a=2):
     """Whether node j has a word and it is not the node's."""
-    found = bits_of(buffer)[j * width(k, form):(j + 1) * width(k, form)]
-    return j < count(k, form) and found != stored(k, j, form)
+    found = bits_of(buffer)[j * width(k, form, a):(j + 1) * width(k, form, a)]
+    return j < count(k, form) and found != stored(k, j, form, a)
 
 
-def leading(k, x):
-    """The operand's leading bits: the k + 1 of i, which begin with its leading one, and the k + 3 of f after them. Zeros stand for those
+def leading(k, x, b=3):
+    """The operand's leading bits: the k + 1 of i, which begin with its leading one, and the k + b of f after them. Zeros stand for those
     that it does not have."""
-    bits = format(x, "b").ljust(2 * k + 4, "0")
-    return bits[:k + 1], bits[k + 1:2 * k + 4]
+    bits = format(x, "b").ljust(2 * k + b + 1, "0")
+    return bits[:k + 1], bits[k + 1:2 * k + b + 1]
 
 
 def piece(k, x):
@@ -95,60 +102,75 @@ def piece(k, x):
     return int(leading(k, x)[0], 2) - 2 ** k
 
 
-def point(k, x):
-    """P / 2^(k+3): the point on the straight line from node j to node j + 1 that is f / 2^(k+3) of the way along, in table units."""
-    way = Fraction(int(leading(k, x)[1], 2), 2 ** (k + 3))
-    start, end = node(k, piece(k, x)), node(k, piece(k, x) + 1)
+def point(k, x, a=2, b=3):
+    """P / 2^(k+b): the point on the straight line from node j to node j + 1 that is f / 2^(k+b) of the way along, in table units."""
+    way = Fraction(int(leading(k, x, b)[1], 2), 2 ** (k + b))
+    start, end = node(k, piece(k, x), a), node(k, piece(k, x) + 1, a)
     return start * (1 - way) + end * way
 
 
-def reciprocal(k, n, x):
-    """R: that point in ulps of four table units, rounded down. It is less than an ulp off."""
-    ulps = math.floor(point(k, x) / 4)
+def reciprocal(k, n, x, a=2, b=3):
+    """R: that point in ulps of 2^a table units, rounded down. It is less than an ulp off."""
+    ulps = math.floor(point(k, x, a, b) / 2 ** a)
     assert abs(ulps * x - 2 ** (n + 2 * k + 1)) < x, f"precision {k}, {x} with {n} fraction bits: {ulps} is an ulp off, or more"
     return ulps
 
 
 # ---- the calls: each answer is (number, place, value)
 
-def first_two(k, buffer, form):
-    """Refusals 1 and 2, or 0."""
+def first_of_format(k, a, b):
+    """Refusals 1 and 18, or 0."""
     if not in_range(k):
         return 1
-    if len(buffer) < length(k, form):
+    if not guard_bits_in_range(a, b):
+        return 18
+    return 0
+
+
+def first_three(k, buffer, form, a, b):
+    """Refusals 1, 18 and 2, or 0."""
+    number = first_of_format(k, a, b)
+    if number:
+        return number
+    if len(buffer) < length(k, form, a):
         return 2
     return 0
 
 
-def call_build(k, buffer, form=PLAIN):
-    number = first_two(k, buffer, form)
+def call_image_length(k, form=PLAIN, a=2, b=3):
+    """The bytes of an image, 0 where 1 or 18 applies."""
+    return 0 if first_of_format(k, a, b) else length(k, form, a)
+
+
+def call_build(k, buffer, form=PLAIN, a=2, b=3):
+    number = first_three(k, buffer, form, a, b)
     if number:
         return (number, 0, 0), buffer
-    return (0, 0, 0), image(k, form).ljust(len(buffer), b"\0")
+    return (0, 0, 0), image(k, form, a).ljust(len(buffer), b"\0")
 
 
-def call_check(k, buffer, form=PLAIN):
-    number = first_two(k, buffer, form)
+def call_check(k, buffer, form=PLAIN, a=2, b=3):
+    number = first_three(k, buffer, form, a, b)
     if number:
         return (number, 0, 0)
-    bad = [j for j in range(count(k, form)) if word_is_wrong(k, buffer, j, form)]
-    wrong = [(6, j, 0) for j in bad] + [(7, at, 0) for at in tail_is_not_zero(k, buffer, form)]
+    bad = [j for j in range(count(k, form)) if word_is_wrong(k, buffer, j, form, a)]
+    wrong = [(6, j, 0) for j in bad] + [(7, at, 0) for at in tail_is_not_zero(k, buffer, form, a)]
     return min(wrong, default=(0, 0, 0))
 
 
-def call_node(k, buffer, j, form=PLAIN):
-    number = first_two(k, buffer, form)
+def call_node(k, buffer, j, form=PLAIN, a=2, b=3):
+    number = first_three(k, buffer, form, a, b)
     if number:
         return (number, 0, 0)
     if j > 2 ** k:
         return (3, 0, 0)
-    if word_is_wrong(k, buffer, j, form):
+    if word_is_wrong(k, buffer, j, form, a):
         return (6, j, 0)
-    return (0, 0, node(k, j))
+    return (0, 0, node(k, j, a))
 
 
-def call_reciprocal(k, buffer, n, x, form=PLAIN):
-    number = first_two(k, buffer, form)
+def call_reciprocal(k, buffer, n, x, form=PLAIN, a=2, b=3):
+    number = first_three(k, buffer, form, a, b)
     if number:
         return (number, 0, 0)
     if not LEAST_BITS <= n <= MOST_BITS:
@@ -156,15 +178,15 @@ def call_reciprocal(k, buffer, n, x, form=PLAIN):
     if not 2 ** n <= x <= 2 ** (n + 1) - 1:
         return (5, 0, 0)
     ends = (piece(k, x), piece(k, x) + 1)
-    bad = [j for j in ends if word_is_wrong(k, buffer, j, form)]
-    return (6, min(bad), 0) if bad else (0, 0, reciprocal(k, n, x))
+    bad = [j for j in ends if word_is_wrong(k, buffer, j, form, a)]
+    return (6, min(bad), 0) if bad else (0, 0, reciprocal(k, n, x, a, b))
 
 
-def call_word_bytes(k, buffer, j, form=PLAIN):
-    if first_two(k, buffer, form) or j > count(k, form) - 1:
+def call_word_bytes(k, buffer, j, form=PLAIN, a=2, b=3):
+    if first_three(k, buffer, form, a, b) or j > count(k, form) - 1:
         return b""
-    first = math.floor(Fraction(j * width(k, form), 8))
-    last = math.floor(Fraction((j + 1) * width(k, form) - 1, 8))
+    first = math.floor(Fraction(j * width(k, form, a), 8))
+    last = math.floor(Fraction((j + 1) * width(k, form, a) - 1, 8))
     return bytes(buffer[at] for at in range(first, last + 1))
 
 
@@ -184,7 +206,7 @@ def table(data):
 # ---- the program `cases`
 
 ROOM = 16384  # bytes, of which the front is lent
-SCRIPT = 131072  # bytes of the script that are read
+SCRIPT = 262144  # bytes of the script that are read
 
 
 def rows(data):
@@ -205,7 +227,7 @@ def value_or_0(k, j):
 class Cases:
     """Runs a script as crates/cases/src/main.rt describes it: each command is a method, and what it returns is printed."""
 
-    COMMANDS = "fill hex xor length show build precision format check node kept word rule eight invert around through".split(" ")
+    COMMANDS = "fill hex xor length show sum build precision format check node kept word rule eight invert around through".split(" ")
 
     def __init__(self):
         self.room = bytes(ROOM)
@@ -238,8 +260,12 @@ class Cases:
     def show(self):
         return rows(self.buffer())
 
-    def build(self, k, form=PLAIN):
-        answer, after = call_build(k, self.buffer(), form)
+    def sum(self):
+        """The 64-bit FNV-1a hash of the lent bytes."""
+        return row(functools.reduce(lambda sofar, byte: (sofar ^ byte) * (2 ** 40 + 0x1b3) % 2 ** 64, self.buffer(), 0xcbf29ce484222325))
+
+    def build(self, k, form=PLAIN, a=2, b=3):
+        answer, after = call_build(k, self.buffer(), form, a, b)
         self.put(after)
         return row(*answer)
 
@@ -247,36 +273,38 @@ class Cases:
         """What is answered at each number from the first to the last, of which there is at least one."""
         return "".join(f" {number}{answer(number)}" for number in range(first, max(first, last) + 1))
 
-    def precision(self, first, last=0):
+    def precision(self, first, last=0, a=2):
         def answer(k):
-            words = 2 ** k if in_range(k) else 0
-            size = Fraction(words * width(k), 8)
-            return row(int(in_range(k)), width(k), words, size, LEAST, GREATEST, max(LENGTHS), LEAST_BITS, MOST_BITS)
+            words, size = (2 ** k, LENGTHS[k - 1]) if in_range(k) else (0, 0)
+            return row(int(in_range(k)), width(k, PLAIN, a), words, size, LEAST, GREATEST, max(LENGTHS), LEAST_BITS, MOST_BITS)
         return self.each(first, last, answer)
 
-    def format(self, first, last=0, form=PLAIN):
+    def format(self, first, last=0, form=PLAIN, a=2, b=3):
+        longest = [length(GREATEST, PLAIN), length(GREATEST, FULL), length(GREATEST, FULL, GREATEST_TABLE)]
+
         def answer(k):
-            sizes = (count(k, form), length(k, form)) if in_range(k) else (0, 0)
-            return row(width(k, form), *sizes, length(GREATEST, PLAIN), length(GREATEST, FULL))
+            words = count(k, form) if in_range(k) else 0
+            return row(width(k, form, a), words, call_image_length(k, form, a, b), int(guard_bits_in_range(a, b)), *longest,
+                       LEAST_TABLE, GREATEST_TABLE, LEAST_INPUT, GREATEST_INPUT)
         return self.each(first, last, answer)
 
-    def check(self, first, last=0, form=PLAIN):
-        return self.each(first, last, lambda k: row(*call_check(k, self.buffer(), form)))
+    def check(self, first, last=0, form=PLAIN, a=2, b=3):
+        return self.each(first, last, lambda k: row(*call_check(k, self.buffer(), form, a, b)))
 
-    def node(self, first, last, k, form=PLAIN):
-        return self.each(first, last, lambda j: row(*call_node(k, self.buffer(), j, form)))
+    def node(self, first, last, k, form=PLAIN, a=2, b=3):
+        return self.each(first, last, lambda j: row(*call_node(k, self.buffer(), j, form, a, b)))
 
-    def word(self, first, last, k, form=PLAIN):
-        return self.each(first, last, lambda j: rows(call_word_bytes(k, self.buffer(), j, form)))
+    def word(self, first, last, k, form=PLAIN, a=2, b=3):
+        return self.each(first, last, lambda j: rows(call_word_bytes(k, self.buffer(), j, form, a, b)))
 
-    def invert(self, k, n, x, count=1, step=0, form=PLAIN):
+    def invert(self, k, n, x, count=1, step=0, form=PLAIN, a=2, b=3):
         """What is answered at the operands x, x + step, .. modulo 2^64, of which there is at least one."""
         operands = [(x + step * number) % 2 ** 64 for number in range(max(1, count))]
-        return "".join(row(operand, *call_reciprocal(k, self.buffer(), n, operand, form)) for operand in operands)
+        return "".join(row(operand, *call_reciprocal(k, self.buffer(), n, operand, form, a, b)) for operand in operands)
 
-    def around(self, k, n, x, count=1, step=0, form=PLAIN):
+    def around(self, k, n, x, count=1, step=0, form=PLAIN, a=2, b=3):
         operands = [x + step * number for number in range(max(1, count))]
-        return "".join(self.invert(k, n, operand - 1, 3, 1, form) for operand in operands)
+        return "".join(self.invert(k, n, operand - 1, 3, 1, form, a, b) for operand in operands)
 
     kept, through = node, invert  # a bound table gives what the calls on its image give
 

@@ -1,5 +1,5 @@
 #!/usr/bin/env python3
-"""Writes the cases for reciprocals, full ROMs and full words in crates/cases/stdin, the script of the program `cases`, whose commands
+"""Writes the cases for reciprocals, full ROMs, full words and other guard bits in crates/cases/stdin, the script of the program `cases`, whose commands
 crates/cases/src/main.rt describes. What stands down to the mark is kept, and is changed there. Below it come the cases of tests/document01.txt, without
 their answers, and those that are made here.
 
@@ -20,46 +20,50 @@ TOP = 2 ** 64 - 1
 
 
 # ---- lines of a script
+#
+# A table is its precision and then its form, a table guard bits and b input guard bits, which are plain, 2 and 3 where they are left out.
 
-size = reference.length
-
-
-def ending(form):
-    """The form as the last number of a line, which plain words leave out."""
-    return f" {form}" if form else ""
+size = reference.call_image_length
 
 
-def build(k, form=PLAIN):
-    return f"build {k}{ending(form)}"
+def ending(form, a=2, b=3):
+    """The form and the guard bits as the last numbers of a line, which leaves out what it can."""
+    return f" {form} {a} {b}" if (a, b) != (2, 3) else f" {form}" if form else ""
 
 
-def image(k, fill=0, form=PLAIN, more=0):
+def build(k, form=PLAIN, a=2, b=3):
+    return f"build {k}{ending(form, a, b)}"
+
+
+def image(k, fill=0, form=PLAIN, a=2, b=3, more=0):
     """An image of its own length, or with more bytes behind it, in a room of the byte `fill`."""
-    return [f"fill {fill}", f"length {size(k, form) + more}", build(k, form)]
+    return [f"fill {fill}", f"length {size(k, form, a, b) + more}", build(k, form, a, b)]
 
 
-def check(k, form=PLAIN):
-    return f"check {k} 0 {form}" if form else f"check {k}"
+def check(k, form=PLAIN, a=2, b=3):
+    last = ending(form, a, b)
+    return f"check {k} 0{last}" if last else f"check {k}"
 
 
-def operands(word, k, n, x, count, step, form):
-    return f"{word} {k} {n} {x % 2 ** 64}" + (f" {count} {step}" if count > 1 or form else "") + ending(form)
+def operands(word, k, n, x, count, step, *table):
+    last = ending(*table)
+    return f"{word} {k} {n} {x % 2 ** 64}" + (f" {count} {step}" if count > 1 or last else "") + last
 
 
-def invert(k, n, x, count=1, step=0, form=PLAIN):
-    return operands("invert", k, n, x, count, step, form)
+def invert(k, n, x, count=1, step=0, form=PLAIN, a=2, b=3):
+    return operands("invert", k, n, x, count, step, form, a, b)
 
 
-def around(k, n, x, count=1, step=0, form=PLAIN):
-    return operands("around", k, n, x, count, step, form)
+def around(k, n, x, count=1, step=0, form=PLAIN, a=2, b=3):
+    return operands("around", k, n, x, count, step, form, a, b)
 
 
-def node(first, to, k, form=PLAIN):
-    return f"node {first} {to} {k}{ending(form)}"
+def node(first, to, k, form=PLAIN, a=2, b=3):
+    return f"node {first} {to} {k}{ending(form, a, b)}"
 
 
-def word(first, to, k, form=PLAIN):
-    return f"word {first} {to} {k}{ending(form)}"
+def word(first, to, k, form=PLAIN, a=2, b=3):
+    return f"word {first} {to} {k}{ending(form, a, b)}"
 
 
 def both(call):
@@ -73,14 +77,14 @@ def flip(bit):
     return f"xor {bit // 8} {128 >> bit % 8}"
 
 
-def flip_first(k, j, form=PLAIN):
+def flip_first(k, j, form=PLAIN, a=2, _=3):
     """The most significant bit of word j is changed."""
-    return flip(j * reference.width(k, form))
+    return flip(j * reference.width(k, form, a))
 
 
-def flip_last(k, j, form=PLAIN):
+def flip_last(k, j, form=PLAIN, a=2, _=3):
     """The least significant bit of word j is changed."""
-    return flip((j + 1) * reference.width(k, form) - 1)
+    return flip((j + 1) * reference.width(k, form, a) - 1)
 
 
 # ---- what the documents say
@@ -315,13 +319,13 @@ def limits():
         yield invert(2, n, TOP, 4, 1)
 
 
-def pairs(precisions, lengths, form=PLAIN):
+def pairs(precisions, lengths, *table):
     """The operands 127, 128, 2^64 - 1 and 0 at each precision with each number of fraction bits, and nodes 4 and 5."""
     for k in precisions:
         for n in lengths:
-            yield from both(invert(k, n, 127, 2, 1, form))
-            yield invert(k, n, TOP, 2, 1, form)
-        yield from both(node(4, 5, k, form))
+            yield from both(invert(k, n, 127, 2, 1, *table))
+            yield invert(k, n, TOP, 2, 1, *table)
+        yield from both(node(4, 5, k, *table))
 
 
 def order():
@@ -354,7 +358,7 @@ def full_words():
     for k in PRECISIONS:
         top, own = 2 ** k, size(k, FULL)
         yield from image(k, 90, FULL)
-        yield "show"
+        yield "show" if k < 9 else "sum"
         yield check(k, FULL)
         some, every = [(0, 1), (top // 2 - 1, top // 2), (top - 2, top + 1)], [(0, top + 1)]
         for first, to in some if k in (10, 11) else every:
@@ -385,7 +389,7 @@ def full_operands():
         for n in range(1, 2 * k + 4):
             yield invert(k, n, 2 ** n - 1, 2 ** n + 2, 1, FULL)
     for k in PRECISIONS:
-        yield from image(k, k, FULL, 16 - k)
+        yield from image(k, k, FULL, more=16 - k)
         cut, parts = 2 * k + 3, min(k, 3)
         for n in (cut, cut + 1, 63):
             piece = 2 ** (n - k)
@@ -445,7 +449,7 @@ def last_full_word():
         form = (FULL, 2, 256, 4294967295)[k % 4]
         top, n = 2 ** k, 2 * k + 4 - k % 2
         piece = 2 ** (n - k)
-        yield from image(k, 255, form, k % 3)
+        yield from image(k, 255, form, more=k % 3)
         for changes in ((flip_last(k, top, form),), (flip_first(k, top, form),), (flip_first(k, top - 1, form),),
                         (flip_first(k, top, form), flip_last(k, top, form))):
             yield from changes
@@ -513,9 +517,249 @@ def full_refusals():
     yield word(4294967295, 4294967295, 2, FULL)
 
 
+# ---- other guard bits
+
+GUARD_BITS = [(a, b) for a in (2, 3, 4) for b in (3, 4, 5)]
+OTHERS = [(form, a, b) for form in (PLAIN, FULL) for a, b in GUARD_BITS if (a, b) != (2, 3)]
+
+
+def an_image_each(k):
+    """Tables of precision k with three and with four table guard bits, plain and full; the input guard bits change from one precision to the next."""
+    return [(form, a, 3 + (k + a + form) % 3) for form in (PLAIN, FULL) for a in (3, 4)]
+
+
+def guard_bit_sizes():
+    yield "# What a format of other guard bits says of itself, and a precision of its words; any number can be asked for"
+    for form in (PLAIN, FULL):
+        for a, b in ((3, 3), (4, 5)):
+            yield f"format 0 13{ending(form, a, b)}"
+        yield f"format 12 0{ending(form, 2, 5)}"
+        for a in (0, 1, 5, 6, 255, 258, 65539, 2147483648, 4294967295):
+            yield f"format 2 0{ending(form, a, 3)}"
+        for b in (0, 2, 6, 7, 255, 259, 65539, 2147483651, 4294967295):
+            yield f"format 2 0{ending(form, 2, b)}"
+        yield f"format 2 0{ending(form, 1, 6)}"
+        yield f"format 13 0{ending(form, 5, 2)}"
+        yield f"format 4294967295 0{ending(form, 4294967295, 4294967295)}"
+    for a in (0, 1, 3, 4, 5, 4294967295):
+        yield f"precision 12 13 {a}"
+        yield f"precision 4294967295 0 {a}"
+
+
+def guard_bit_images():
+    yield "# Images with other table guard bits; a few nodes, and the bytes of a few words, all up to k = 2; then in a buffer one byte short"
+    for k in PRECISIONS:
+        top = 2 ** k
+        for table in an_image_each(k):
+            yield from image(k, 90, *table)
+            yield "show" if k < 6 else "sum"
+            yield check(k, *table)
+            for first, to in [(0, top + 1)] if k < 3 else [(0, 1), (top // 2 + k, top // 2 + k), (top - 1, top + 1)]:
+                yield from both(node(first, to, k, *table)) if k % 3 == 2 else [node(first, to, k, *table)]
+                yield word(first, to, k, *table)
+            yield f"length {size(k, *table) - 1}"
+            yield build(k, *table)
+            yield check(k, *table)
+            yield node(top, top, k, *table)
+            yield word(0, 0, k, *table)
+            yield invert(k, 1, 3, 1, 0, *table)
+    yield "# An image is that of its own form and table guard bits alone, but the input guard bits may be any"
+    for k in (1, 2, 5):
+        for form, a in [(form, a) for form in (PLAIN, FULL) for a in (2, 3, 4)]:
+            yield "fill 0"
+            yield "length 72"
+            yield build(k, form, a)
+            for asked in [(form, a) for form in (PLAIN, FULL) for a in (2, 3, 4)]:
+                yield check(k, *asked, 5)
+
+
+def guard_bit_operands():
+    yield "# Operands and other guard bits: every operand with 1 to 2k + b fraction bits at k = 1, and one on each side"
+    for form, a, b in OTHERS:
+        if (a + b + form) % 2:
+            yield from image(1, 0, form, a, b)
+            for n in range(1, b + 3):
+                yield invert(1, n, 2 ** n - 1, 2 ** n + 2, 1, form, a, b)
+    yield "# Operands and other guard bits: nodes and their neighbours; an operand cut and padded, with zeros and ones to its right; short operands"
+    for k in PRECISIONS[1:]:
+        for form, a, b in OTHERS:
+            if (k + a + b + form) % 2:
+                continue
+            table, cut = (form, a, b), 2 * k + b
+            yield from image(k, k, *table, more=b)
+            n = cut + (k + a) % 3 - 1
+            yield around(k, n, 2 ** n, 3, 2 ** (n - 1), *table)
+            yield around(k, n, 2 ** n + (3 * k + a) % 2 ** k * 2 ** (n - k), 1, 0, *table)
+            x = 2 ** cut + (2 ** cut * (7 * k + 3 * a + b) // 113 | 1)  # its last bit is 1; another piece each time
+            yield from both(invert(k, cut, x, 1, 0, *table))
+            yield invert(k, cut + 1, 2 * x - 1, 3, 1, *table)
+            yield invert(k, cut + 2, 4 * x + 3, 1, 0, *table)
+            yield invert(k, 63, x * 2 ** (63 - cut), 2, 2 ** (63 - cut) - 1, *table)
+            yield invert(k, cut - 1, x // 2, 1, 0, *table)
+            yield invert(k, cut, x - 1, 1, 0, *table)
+            yield invert(k, k + 1, x // 2 ** (k + b - 1), 1, 0, *table)
+
+
+# By precision, operands with 2k + 5 fraction bits of which one or another has another reciprocal for any two choices of guard bits.
+TELLING = {
+    2: (553, 554, 573, 614, 660, 784),
+    3: (2573, 2574, 2600, 2601, 2656, 2657),
+    7: (557066, 557157, 557429, 557502, 557520, 561399, 561676),
+    12: (570425345, 570425346, 570425361, 570425362, 570425363, 570952080),
+}
+
+
+def told_apart():
+    yield "# Operands by which any two choices of guard bits are told apart"
+    for k, found in TELLING.items():
+        n = 2 * k + 5
+        given = {tuple(reference.reciprocal(k, n, x, *each) for x in found) for each in GUARD_BITS}
+        assert len(given) == len(GUARD_BITS), f"precision {k}: not all choices are told apart"
+        for a, b in GUARD_BITS:
+            table = (k % 2, a, b)
+            yield from image(k, 0, *table)
+            for x in found:
+                yield invert(k, n, x, 1, 0, *table)
+
+
+def guard_bits_to_the_right():
+    yield "# Bits to the right with other guard bits, zeros and ones behind the first 2k + b fraction bits: of operands cut and padded, of some out of range;"
+    yield "# then of operands beside a wrong word"
+    for table in ((PLAIN, 2, 4), (FULL, 2, 5), (PLAIN, 3, 4), (PLAIN, 4, 5)):
+        cut = table[-1] + 4
+        beside = [(cut, 2 ** (cut + 1) - 3), (4, 29)]
+        yield from image(2, 0, *table)
+        for changes, operands in (((), [*beside, (cut, 2 ** cut - 1), (cut, 2 ** (cut + 1)), (3, 7), (3, 16)]), ((flip_last(2, 3, *table),), beside)):
+            yield from changes
+            for n, x in operands:
+                yield invert(2, n, x, 1, 0, *table)
+                yield invert(2, n + 1, 2 * x, 1, 0, *table)
+                yield invert(2, cut + 2, x * 2 ** (cut + 2 - n), 2, 3, *table)
+                if x < 2 ** (n + 1):  # else it has more than 64 bits
+                    yield invert(2, 63, x * 2 ** (63 - n), 2, 2 ** (63 - cut) - 1, *table)
+
+
+def guard_bit_changes():
+    yield "# Images with other table guard bits and one bit changed, each in turn, filling bits too"
+    for k in (1, 2):
+        for table in an_image_each(k):
+            yield from image(k, 0, *table)
+            for bit in range(8 * size(k, *table)):
+                yield flip(bit)
+                yield check(k, *table)
+                if k == 1:
+                    yield node(0, 2, k, *table)
+                    yield invert(k, 3, 11, 2, 2, *table)
+                yield flip(bit)
+    yield "# Damage in a word in the middle, then in the next one too, then there alone, then in the first bit of the last word too"
+    for k in range(3, 13):
+        for table in an_image_each(k) + [(k % 2, 2, 4 + k % 2)]:
+            middle, last = 2 ** (k - 1) + k % 4, reference.count(k, table[0]) - 1
+            yield from image(k, k, *table)
+            if k < 9:
+                yield flip_last(k, middle, *table)
+                yield check(k, *table)
+                yield invert(k, k, 2 ** k + middle - 2, 4, 1, *table)
+                yield flip_first(k, middle + 1, *table)
+                yield invert(k, k, 2 ** k + middle, 1, 0, *table)
+                yield flip_last(k, middle, *table)
+            else:
+                yield flip_first(k, middle + 1, *table)
+            yield check(k, *table)
+            yield from both(node(middle, middle + 1, k, *table))
+            yield from both(invert(k, k, 2 ** k + middle - 1, 3, 1, *table))
+            yield flip_first(k, last, *table)
+            yield check(k, *table)
+            yield invert(k, k, 2 ** (k + 1) - 2, 2, 1, *table)
+    yield "# The widest words, two of which have up to 60 bits, wherever in a byte they begin: the last bit of each in turn is changed, and the first one"
+    for table in ((FULL, 3, 5), (FULL, 4, 3), (FULL, 4, 5)):
+        yield from image(12, 0, *table)
+        for j in (*range(1, 9), *range(4089, 4097)):
+            for change in (flip_last(12, j, *table), flip_first(12, j, *table)):
+                yield change
+                yield invert(12, 12, 2 ** 12 + j - 1, 1, 0, *table)
+                yield change
+
+
+def guard_bit_tails():
+    yield "# Plain words that end within a byte: every content of the filling bits, which no call but the check depends on"
+    for k, a in ((1, 3), (1, 4), (2, 3)):
+        whole = reference.image(k, PLAIN, a)
+        filling = 8 * len(whole) - reference.bit_count(k, PLAIN, a)
+        for content in range(2 ** filling):
+            table = (PLAIN, a, 3 + content % 3)
+            yield "hex " + (whole[:-1] + bytes([whole[-1] | content])).hex(" ").upper()
+            yield check(k, *table)
+            if content in (0, 1, 2 ** (filling - 1), 2 ** filling - 1):
+                yield from both(node(0, 2 ** k + 1, k, *table))
+                yield word(2 ** k - 1, 2 ** k, k, *table)
+                yield from both(invert(k, k + 2, 2 ** (k + 3) - 5, 5, 1, *table))
+    yield "# Full ROMs with other table guard bits, built over other bytes: all filling bits are set, where there are any, then the last byte is changed"
+    yield "# too, then that alone, with a word"
+    for k in PRECISIONS:
+        for table in an_image_each(k):
+            own = size(k, *table)
+            filling = 8 * own - reference.bit_count(k, *table[:2])
+            yield f"fill {100 + k} 1"
+            yield f"length {own + 2 + k % 2 * 70}"
+            yield build(k, *table)
+            yield "show" if k < 4 else "sum"
+            yield check(k, *table)
+            if filling:
+                yield f"xor {own - 1} {2 ** filling - 1}"
+                yield check(k, *table)
+                yield node(2 ** k, 2 ** k, k, *table)
+                yield invert(k, k, 2 ** (k + 1) - 1, 1, 0, *table)
+            yield f"xor {own + 1 + k % 2 * 70} {1 << k % 8}"
+            yield check(k, *table)
+            if filling:
+                yield f"xor {own - 1} {2 ** filling - 1}"
+                yield check(k, *table)
+            yield flip_last(k, 2 ** k - 1, *table)
+            yield check(k, *table)
+
+
+def guard_bit_refusals():
+    yield "# Guard bits out of their ranges, in every call, with a buffer that is right, wrong or too short, and precisions, nodes and operands that are"
+    yield "# turned back too"
+    outside = [(1, 3), (5, 4), (2, 2), (4, 6), (0, 0), (258, 3), (2, 259), (4294967295, 4294967295)]
+    for form, contents in ((PLAIN, ("02 75 8A", "FF FF FF", "02")), (FULL, ("80 67 56 4A 40", "00 00 00 00 00", "80 67 56"))):
+        for number, data in enumerate(contents):
+            yield f"hex {data}"
+            for a, b in outside[:4] if number else outside:
+                table = (form, a, b)
+                yield build(2, *table)
+                yield check(2, *table)
+                yield from both(node(0, 0, 2, *table))
+                yield node(5, 5, 2, *table)
+                yield word(0, 0, 2, *table)
+                yield from both(invert(2, 7, 135, 1, 0, *table))
+                for k, n, x in ((2, 0, 1), (2, 64, 0), (2, 7, 127)):
+                    yield invert(k, n, x, 1, 0, *table)
+                for k in (0, 13) if (a, b) in ((1, 3), (4, 6)) else ():
+                    yield build(k, *table)
+                    yield check(k, *table)
+                    yield node(0, 0, k, *table)
+                    yield word(0, 0, k, *table)
+                    yield from both(invert(k, 64, 0, 1, 0, *table))
+            yield "show"
+    yield "hex 02 75 8A 01"
+    for a, b in outside:
+        yield check(2, PLAIN, a, b)
+    yield "# The refusals of a reciprocal in their order, with other guard bits: a short buffer, wrong words, an image"
+    for table in ((PLAIN, 3, 4), (FULL, 4, 5)):
+        right = reference.image(2, *table[:2])
+        for data in (right[:-1], bytes(byte ^ 255 for byte in right), right):
+            yield f"hex {data.hex(' ').upper()}"
+            yield from pairs((0, 2, 13), (0, 7, 64), *table)
+        for n in (1, 6, 7, 8, 9, 63):
+            yield around(2, n, 2 ** n, 2, 2 ** n, *table)
+
+
 PARTS = [document01, table2, every_operand, spread, single_precision, bits_to_the_right, wrong_words, each_bit, wrong_neighbours,
          last_piece, full_roms, limits, order, formats, full_words, full_operands, wrong_full_words, each_full_bit, last_full_word,
-         filling_bits, full_refusals]
+         filling_bits, full_refusals, guard_bit_sizes, guard_bit_images, guard_bit_operands, told_apart, guard_bits_to_the_right,
+         guard_bit_changes, guard_bit_tails, guard_bit_refusals]
 
 
 def script():

@@ -2,7 +2,7 @@
 
 use crate::command::{Call, Operands};
 use answers::Refused;
-use format::{Form, Format};
+use format::{Format, GuardBits};
 use operand::Operand;
 use precision::Precision;
 use std::io;
@@ -17,10 +17,10 @@ pub(crate) fn build(rt: &impl Print, format: Format, image: &mut [u8]) -> io::Re
 // Makes the calls of a line that only prints.
 pub(crate) fn run(rt: &impl Print, call: Call, image: &[u8]) -> io::Result<()> {
     match call {
-        Call::Precision(ks) => each(rt, ks, |k| limits(rt, Precision(k))),
-        Call::Format(ks, form) => each(rt, ks, |k| sizes(rt, of(k, form))),
-        Call::Check(ks, form) => each(rt, ks, |k| {
-            answer(rt, checking::check(of(k, form), image).map(|()| 0))
+        Call::Precision(ks, table) => each(rt, ks, |k| limits(rt, Precision(k), table)),
+        Call::Format(ks, format) => each(rt, ks, |k| sizes(rt, of(k, format))),
+        Call::Check(ks, format) => each(rt, ks, |k| {
+            answer(rt, checking::check(of(k, format), image).map(|()| 0))
         }),
         Call::Node(js, format) => each(rt, js, |j| {
             answer(rt, reading::node(format, image, j).map(|c| c.0))
@@ -48,6 +48,7 @@ pub(crate) fn run(rt: &impl Print, call: Call, image: &[u8]) -> io::Result<()> {
             reciprocal(rt, x, binding::bound_reciprocal(xs.format, image, x))
         }),
         Call::Show => bytes(rt, image),
+        Call::Sum => println!(rt; " {}", sum(image)),
     }
 }
 
@@ -84,12 +85,13 @@ fn around(operand: Operand) -> [Operand; 3] {
     [x.wrapping_sub(1), x, x.wrapping_add(1)].map(|x| Operand { n, x })
 }
 
-// What a precision says of itself, the limits that are named with it, and the fewest and the most fraction bits of an operand.
-fn limits(rt: &impl Print, k: Precision) -> io::Result<()> {
+// What a precision says of itself, of its words those with some table guard bits; the limits that are named with it, and the fewest and the most fraction
+// bits of an operand.
+fn limits(rt: &impl Print, k: Precision, table_guard_bits: u32) -> io::Result<()> {
     println!(rt;
         " {} {} {} {} {} {} {} {} {}",
         u8::from(k.in_range()),
-        k.word_width(),
+        k.word_width(table_guard_bits),
         k.word_count().unwrap_or(0),
         k.image_length().unwrap_or(0),
         Precision::LEAST,
@@ -100,23 +102,31 @@ fn limits(rt: &impl Print, k: Precision) -> io::Result<()> {
     )
 }
 
-// Precision k in a form.
-fn of(k: u32, form: Form) -> Format {
+// A format with precision k in the place of its own.
+fn of(k: u32, format: Format) -> Format {
     Format {
         precision: Precision(k),
-        form,
+        form: format.form,
+        guard_bits: format.guard_bits,
     }
 }
 
-// What a format says of itself, and the longest image of each form.
+// What a format says of itself and of its guard bits; the longest image of each form with two table guard bits, and the longest of all; and the limits of
+// the guard bits.
 fn sizes(rt: &impl Print, format: Format) -> io::Result<()> {
     println!(rt;
-        " {} {} {} {} {}",
+        " {} {} {} {} {} {} {} {} {} {} {}",
         format.word_width(),
         format.word_count().unwrap_or(0),
         format.image_length().unwrap_or(0),
+        u8::from(format.guard_bits.in_range()),
         Format::LONGEST_PLAIN,
-        Format::LONGEST_FULL
+        Format::LONGEST_FULL,
+        Format::LONGEST,
+        GuardBits::LEAST_TABLE,
+        GuardBits::GREATEST_TABLE,
+        GuardBits::LEAST_INPUT,
+        GuardBits::GREATEST_INPUT
     )
 }
 
@@ -142,6 +152,13 @@ fn answer(rt: &impl Print, given: Result<u64, Refused>) -> io::Result<()> {
         Ok(value) => println!(rt; " 0 0 {value}"),
         Err(why) => println!(rt; " {} {} 0", why.number(), why.place()),
     }
+}
+
+// The 64-bit FNV-1a hash of bytes.
+fn sum(s: &[u8]) -> u64 {
+    s.iter().fold(0xcbf2_9ce4_8422_2325, |h, &b| {
+        (h ^ u64::from(b)).wrapping_mul(0x0100_0000_01b3)
+    })
 }
 
 // Bytes in hex, with a line feed after each 32nd and at the end.

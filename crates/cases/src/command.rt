@@ -1,6 +1,6 @@
 // Reading the script: a command to a line, then its numbers, a space before each.
 
-use format::{Form, Format, FormatNumbers};
+use format::{Format, FormatNumbers};
 use operand::Operand;
 use precision::Precision;
 use std::ops::RangeInclusive;
@@ -16,12 +16,13 @@ pub(crate) enum Command<'a> {
     Print(Call),
 }
 
-// A call that only prints, with the numbers that it is made with: precisions or nodes, from the first to the last, or operands.
+// A call that only prints, with the numbers that it is made with: precisions or nodes, from the first to the last, or operands. Where they are precisions,
+// each takes the place of that of the format.
 #[derive(Drop)]
 pub(crate) enum Call {
-    Precision(RangeInclusive<u32>),
-    Format(RangeInclusive<u32>, Form),
-    Check(RangeInclusive<u32>, Form),
+    Precision(RangeInclusive<u32>, u32),
+    Format(RangeInclusive<u32>, Format),
+    Check(RangeInclusive<u32>, Format),
     Node(RangeInclusive<u32>, Format),
     Kept(RangeInclusive<u32>, Format),
     Word(RangeInclusive<u32>, Format),
@@ -31,6 +32,7 @@ pub(crate) enum Call {
     Around(Operands),
     Through(Operands),
     Show,
+    Sum,
 }
 
 // The operands of a call on a table: the first one, how many there are, and how far each is above the one before it.
@@ -49,7 +51,7 @@ impl<'a> Command<'a> {
         let word = parts.next()?;
         let rest = parts.next().unwrap_or(&[]);
         let numbers = numbers(rest);
-        let [a, b, ..] = numbers;
+        let [a, b, ..] = numbers.map(or_0);
         Some(match word {
             b"fill" => Command::Fill {
                 first: low_byte(a),
@@ -61,39 +63,47 @@ impl<'a> Command<'a> {
                 mask: low_byte(b),
             },
             b"length" => Command::Length(low_half(a) as usize),
-            b"build" => Command::Build(format_of(low_half(a), low_half(b))),
+            b"build" => {
+                let [k, form, table, input, ..] = numbers;
+                Command::Build(format_of([k, form, table, input]))
+            }
             _ => Command::Print(Call::parse(word, numbers)?),
         })
     }
 }
 
 impl Call {
-    fn parse(word: &[u8], numbers: [u64; 6]) -> Option<Self> {
-        let [first, last, third, fourth, ..] = numbers.map(low_half);
+    fn parse(word: &[u8], numbers: [Option<u64>; 8]) -> Option<Self> {
+        let [first, last, k, ..] = numbers.map(or_0).map(low_half);
         let span = first..=last.max(first);
-        let format = format_of(third, fourth);
+        let [_, _, third, fourth, fifth, sixth, ..] = numbers;
+        let format = format_of([third, fourth, fifth, sixth]);
+        let of_each = format_of([None, third, fourth, fifth]);
         Some(match word {
-            b"precision" => Call::Precision(span),
-            b"format" => Call::Format(span, Form::from(third)),
-            b"check" => Call::Check(span, Form::from(third)),
+            b"precision" => Call::Precision(span, low_half(third.unwrap_or(2))),
+            b"format" => Call::Format(span, of_each),
+            b"check" => Call::Check(span, of_each),
             b"node" => Call::Node(span, format),
             b"kept" => Call::Kept(span, format),
             b"word" => Call::Word(span, format),
-            b"rule" => Call::Rule(span, Precision(third)),
+            b"rule" => Call::Rule(span, Precision(k)),
             b"eight" => Call::Eight(span),
             b"invert" => Call::Invert(Operands::from(numbers)),
             b"around" => Call::Around(Operands::from(numbers)),
             b"through" => Call::Through(Operands::from(numbers)),
             b"show" => Call::Show,
+            b"sum" => Call::Sum,
             _ => return None,
         })
     }
 }
 
-impl From<[u64; 6]> for Operands {
-    fn from([k, n, x, count, step, form]: [u64; 6]) -> Self {
+impl From<[Option<u64>; 8]> for Operands {
+    fn from(numbers: [Option<u64>; 8]) -> Self {
+        let [k, _, _, _, _, form, table, input] = numbers;
+        let [_, n, x, count, step, ..] = numbers.map(or_0);
         Operands {
-            format: format_of(low_half(k), low_half(form)),
+            format: format_of([k, form, table, input]),
             first: Operand { n: low_half(n), x },
             count: low_half(count),
             step,
@@ -101,18 +111,29 @@ impl From<[u64; 6]> for Operands {
     }
 }
 
-// The format of the two numbers of a line.
-fn format_of(precision: u32, form: u32) -> Format {
-    Format::from(FormatNumbers { precision, form })
+// The format of four numbers of a line: precision, form, table guard bits and input guard bits.
+fn format_of(numbers: [Option<u64>; 4]) -> Format {
+    let [precision, form, table, input] = numbers;
+    Format::from(FormatNumbers {
+        precision: low_half(or_0(precision)),
+        form: low_half(or_0(form)),
+        table_guard_bits: low_half(table.unwrap_or(2)),
+        input_guard_bits: low_half(input.unwrap_or(3)),
+    })
 }
 
-// The numbers of a line, 0 where there is none. No command has more than six.
-fn numbers(text: &[u8]) -> [u64; 6] {
-    let mut numbers = [0; 6];
+// The numbers of a line, None where there is none. No command has more than eight.
+fn numbers(text: &[u8]) -> [Option<u64>; 8] {
+    let mut numbers = [None; 8];
     for (number, word) in numbers.iter_mut().zip(text.split(|&b| b == b' ')) {
-        *number = word.iter().fold(0, |v, &b| with_digit(v, b));
+        *number = Some(word.iter().fold(0, |v, &b| with_digit(v, b)));
     }
     numbers
+}
+
+// A number, 0 where there is none.
+fn or_0(n: Option<u64>) -> u64 {
+    n.unwrap_or(0)
 }
 
 // v with a digit after it, or as it is where that is too long or b is no digit.
