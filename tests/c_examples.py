@@ -1,5 +1,6 @@
 """Tests of the examples in c/examples, built as a user builds them: what they print is compared with reference.py."""
 import functools
+import itertools
 import os
 import random
 import re
@@ -9,6 +10,7 @@ from c_build import C_WARNINGS, ROOT, files, make, pkg_config, prefix, room, run
 from examples import blocks, commands_print, full_rom, lines_of, long_roms, proof, sizes, without_end
 
 EXAMPLES = ["bench_words", "order_image", "proofread", "reciprocals"]
+GUARD_BITS = list(itertools.product((2, 3, 4), (3, 4, 5)))
 SANITIZED = 77  # the status of a program that a sanitizer has stopped
 WITH = {**os.environ, "ASAN_OPTIONS": f"exitcode={SANITIZED}:detect_leaks=0:allocator_may_return_null=1",
         "UBSAN_OPTIONS": f"exitcode={SANITIZED}"}
@@ -75,6 +77,19 @@ def ordered():
     return None
 
 
+def ordered_guarded():
+    """With guard bits, and a size or none: the image, or the ROM, of so many table guard bits."""
+    for k, (a, b) in itertools.product(range(1, 13), GUARD_BITS):
+        path = room() / "ordered"
+        path.unlink(missing_ok=True)
+        image = reference.image(k, reference.PLAIN, a)
+        for size, words in ((len(image), []), *((size, [str(size)]) for size in (len(image), len(image) + 1, 65536))):
+            found = ask("order_image", str(k), path, *words, str(a), str(b))
+            if found != (0, f"{k} {size}\n", "") or path.read_bytes() != image.ljust(size, b"\0"):
+                return f"precision {k}, guard bits {a} and {b}, a ROM of {size} bytes: {found}"
+    return None
+
+
 def proofread():
     """Right images, each single bit of that of precision 2 wrong, some bits of each, tails, and files that hold something else."""
     rng = random.Random(4)
@@ -128,16 +143,20 @@ def reciprocals():
 
 
 def bench_words():
-    """Each word of a full image is the node, that of the last node too."""
-    for k in range(1, 13):
-        found = ask("bench_words", str(k))
-        if found != (0, "".join(f"{j} {reference.node(k, j)}\n" for j in range(2 ** k + 1)), ""):
-            return f"precision {k}: {found[0]}, {found[1][-200:]}, {found[2]}"
+    """Each word of a full image is the node, that of the last node too, with all guard bits."""
+    for k, (a, b) in itertools.product(range(1, 13), GUARD_BITS):
+        expected = 0, "".join(f"{j} {reference.node(k, j, a)}\n" for j in range(2 ** k + 1)), ""
+        for words in [[str(a), str(b)]] + ([[]] if (a, b) == (2, 3) else []):
+            found = ask("bench_words", str(k), *words)
+            if found != expected:
+                return f"precision {k}, guard bits {words}: {found[0]}, {found[1][-200:]}, {found[2]}"
     return None
 
 
 NO_NUMBER = ["", "x", "-1", "-0", "+2", " 2", "2 ", "2\n", "2x", "0x2", "2.0", "2e0", "٢", "4294967298", "18446744073709551618", "9" * 400]
 NO_PRECISION = ["0", "13", "00013", "258", "4294967295"]
+NO_TABLE_GUARD_BITS = ["0", "1", "5", "0005", "258", "2147483648", "4294967295"]
+NO_INPUT_GUARD_BITS = ["0", "2", "6", "0006", "259", "2147483648", "4294967295"]
 
 
 def mistakes():
@@ -153,12 +172,24 @@ def mistakes():
         yield name, [], b"", 2, f"{name}: usage: {name} K"
         if rest:
             yield name, ["2"], b"", 2, f"{name}: usage: {name} K "
-    yield "bench_words", ["2", "2"], b"", 2, "bench_words: usage: bench_words K"
-    yield "order_image", ["2", new, "4", "4"], b"", 2, "order_image: usage: order_image K FILE [SIZE]"
+    for words in ["2", "2"], ["2", "2", "3", "3"]:
+        yield "bench_words", words, b"", 2, "bench_words: usage: bench_words K [A B]"
+    yield "order_image", ["2", new, "4", "2", "3", "3"], b"", 2, "order_image: usage: order_image K FILE [SIZE] [A B]"
     yield "proofread", ["2", right, right], b"", 2, "proofread: usage: proofread K FILE"
     for text in NO_NUMBER:
         if "4294967298" != text:
-            yield "order_image", ["2", new, text], b"", 2, "order_image: SIZE is not a number below 2^64"
+            for guard_bits in [], ["4", "5"], ["x", "y"]:
+                yield "order_image", ["2", new, text, *guard_bits], b"", 2, "order_image: SIZE is not a number below 2^64"
+        for name, before in ("bench_words", ["2"]), ("order_image", ["2", new]), ("order_image", ["2", new, "2"]), ("order_image", ["13", new]):
+            yield name, [*before, text, "3"], b"", 2, f"{name}: A is not a number from 2 to 4"
+            yield name, [*before, text, "y"], b"", 2, f"{name}: A is not a number from 2 to 4"
+            yield name, [*before, "2", text], b"", 2, f"{name}: B is not a number from 3 to 5"
+            yield name, [*before, "5", text], b"", 2, f"{name}: B is not a number from 3 to 5"
+    for name, rest in ("bench_words", []), ("order_image", [new]), ("order_image", [new, "0"]), ("order_image", [new, "65536"]):
+        for guard_bits in [*([a, "3"] for a in NO_TABLE_GUARD_BITS), *(["2", b] for b in NO_INPUT_GUARD_BITS), ["5", "6"], ["3", "2"]]:
+            yield name, ["2", *rest, *guard_bits], b"", 1, f"{name}: refusal 18: the table guard bits are not 2 to 4, or the input guard bits not 3 to 5"
+            yield name, ["13", *rest, *guard_bits], b"", 1, f"{name}: refusal 1: "
+    yield "order_image", ["2", new, "3", "3", "3"], b"", 1, "order_image: refusal 2: the buffer is shorter than the image"
     for k, size in ("1", "0"), ("2", "0"), ("2", "2"), ("2", "0002"), ("12", "13311"):
         yield "order_image", [k, new, size], b"", 1, "order_image: refusal 2: the buffer is shorter than the image"
     for k, size in ("0", "0"), ("13", "0"), ("13", "65536"):
@@ -232,10 +263,11 @@ def page_commands():
 def tests():
     yield "c: make examples", made
     yield "c: order_image writes the image of each precision, and full ROMs up to some MiB", ordered
+    yield "c: order_image writes images and full ROMs of all guard bits", ordered_guarded
     yield "c: proofread names the first wrong word, or the first wrong byte past the image", proofread
     yield "c: proofread reads files past the longest image whole", proofread_long
     yield "c: reciprocals gives those of the reference", reciprocals
-    yield "c: bench_words has the nodes from the words of each full image", bench_words
+    yield "c: bench_words has the nodes from the words of each full image, of all guard bits", bench_words
     yield "c: a caller's mistake is told, with a status", mistakes_told
     yield "c: reciprocals stops at an operand that is no number", mistake_after_work
     yield "c: output that cannot be written is told", no_room_for_output

@@ -70,11 +70,17 @@ def units_apart(compiler, error):
 
 # ---- the calls
 
-CONSTANTS = {"SERVED": 0, "PRECISION": 1, "SHORT_BUFFER": 2, "NODE_NUMBER": 3, "FRACTION_BITS": 4, "NOT_NORMALISED": 5, "WRONG_WORD": 6,
-             "TAIL_NOT_ZERO": 7, "LEAST_PRECISION": 1, "GREATEST_PRECISION": 12, "LONGEST_IMAGE": 13312, "FULL_LONGEST_IMAGE": 14340,
-             "LEAST_FRACTION_BITS": 1, "MOST_FRACTION_BITS": 63, "TABLE_UNITS_IN_ULP": 4, "PLAIN_WORDS": 0, "FULL_WORDS": 1}
-# as document 01 has them, Q-1 the fewest fraction bits, Q-2 refusal 7, and Q-7 the forms
+CONSTANTS = {"SERVED": 0, "PRECISION": 1, "GUARD_BITS": 18, "SHORT_BUFFER": 2, "NODE_NUMBER": 3, "FRACTION_BITS": 4, "NOT_NORMALISED": 5,
+             "WRONG_WORD": 6, "TAIL_NOT_ZERO": 7, "LEAST_PRECISION": 1, "GREATEST_PRECISION": 12, "LEAST_TABLE_GUARD_BITS": 2,
+             "GREATEST_TABLE_GUARD_BITS": 4, "LEAST_INPUT_GUARD_BITS": 3, "GREATEST_INPUT_GUARD_BITS": 5, "LONGEST_IMAGE": 13312,
+             "FULL_LONGEST_IMAGE": 14340, "ANY_LONGEST_IMAGE": 15364, "LEAST_FRACTION_BITS": 1, "MOST_FRACTION_BITS": 63,
+             "TABLE_UNITS_IN_ULP(2)": 4, "TABLE_UNITS_IN_ULP(3)": 8, "TABLE_UNITS_IN_ULP(4)": 16, "PLAIN_WORDS": 0, "FULL_WORDS": 1}
+# as document 01 has them, Q-1 the fewest fraction bits, Q-2 refusal 7, Q-7 the forms, and Q-14 the guard bits
 NUMBERS = {"build": {0, 1, 2}, "check": {0, 1, 2, 6, 7}, "node": {0, 1, 2, 3, 6}, "reciprocal": {0, 1, 2, 4, 5, 6}}
+FORMS = (reference.PLAIN, reference.FULL)
+GUARD_BITS = list(itertools.product((2, 3, 4), (3, 4, 5)))  # the pairs in range
+WRONG_GUARD_BITS = [(a, b) for a in (0, 1, 5, 258, 2 ** 31, 2 ** 32 - 1, 2, 3, 4) for b in (0, 2, 6, 259, 2 ** 31, 2 ** 32 - 1, 3, 4, 5)
+                    if (a, b) not in GUARD_BITS]
 
 
 @functools.cache
@@ -90,94 +96,115 @@ def calls_printed():
     return well(built("calls"), "64")
 
 
-def lent(form, k, count, *damages):
-    """The bytes that tests/c/calls.c lends: a full ROM of the format where the image has room, else bytes that are A5; one byte or two damaged."""
-    buffer = bytearray(reference.call_build(k, b"\xa5" * count, form)[1])
+def lent(table, count, *damages):
+    """The bytes that tests/c/calls.c lends: a full ROM of the table where the image has room, else bytes that are A5; one byte or two damaged."""
+    form, k, *guard_bits = table
+    buffer = bytearray(reference.call_build(k, b"\xa5" * count, form, *guard_bits)[1])
     for at, mask in zip(damages[::2], damages[1::2]):
         if mask:
             buffer[at] ^= mask
     return bytes(buffer)
 
 
-def answer(call, form, k, buffer, numbers):
+def answer(call, table, buffer, numbers):
     """What is printed for a call: its name, its numbers and what the reference answers."""
+    form, k, a, b = table
     if call == "build":
-        found, after = reference.call_build(k, buffer, form)
+        found, after = reference.call_build(k, buffer, form, a, b)
         return [call, *found, after.hex()]
     if call == "check":
-        return [call, *reference.call_check(k, buffer, form)]
+        return [call, *reference.call_check(k, buffer, form, a, b)]
     if call == "node":
-        return [call, numbers[0], *reference.call_node(k, buffer, numbers[0], form)]
+        return [call, numbers[0], *reference.call_node(k, buffer, numbers[0], form, a, b)]
     if call == "reciprocal":
-        return [call, *numbers[:2], *reference.call_reciprocal(k, buffer, *numbers[:2], form)]
+        return [call, *numbers[:2], *reference.call_reciprocal(k, buffer, *numbers[:2], form, a, b)]
     assert call == "word_bytes", call
-    part = reference.call_word_bytes(k, buffer, numbers[0], form)
-    offset = numbers[0] * reference.width(k, form) // 8 if part else 0
+    part = reference.call_word_bytes(k, buffer, numbers[0], form, a, b)
+    offset = numbers[0] * reference.width(k, form, a) // 8 if part else 0
     return [call, numbers[0], offset, len(part), part.hex()]
 
 
-FULL_TOO = {2, 255, 2 ** 8, 2 ** 16, 2 ** 31, 2 ** 32 - 1}  # numbers that stand for the full form as 1 does
+# Numbers that stand for the full form as 1 does, each with the guard bits with which it is asked for.
+FULL_TOO = {2: (2, 3), 255: (4, 5), 2 ** 8: (2, 3), 2 ** 16: (4, 5), 2 ** 31: (2, 3), 2 ** 32 - 1: (4, 5)}
 
 
 def calls_compared():
-    form, k, buffer = 0, 0, b""
-    asked = collections.defaultdict(set)  # by call and form
-    operands = collections.defaultdict(set)  # by form, precision and fraction bits: each operand with its number, but for refusals 1, 2 and 6
-    places = collections.defaultdict(set)  # by form, precision and the check's number
+    table, buffer = (0, 0, 2, 3), b""  # form, precision, guard bits
+    asked = collections.defaultdict(set)  # by call, form and guard bits: the precisions, or the numbers of the answers
+    operands = collections.defaultdict(set)  # by table and fraction bits: each operand with its number, but for refusals 1, 18, 2 and 6
+    places = collections.defaultdict(set)  # by table and the check's number
     for line in calls_printed().splitlines():
         call, *words = line.split(" ")
-        if call in ("constant", "limits", "length", "node_8"):
+        if call in ("constant", "limits", "length", "words", "node_8"):
             continue
         if call in ("lent", "null"):
-            form, k, *how = map(int, words)
-            buffer = lent(form, k, *how) if how else b""
-            asked[call, form].add(k)
+            form, k, a, b, *how = map(int, words)
+            table, buffer = (form, k, a, b), lent((form, k, a, b), *how) if how else b""
+            asked[call, form, a, b].add(k)
             continue
         numbers = [int(word) for word in words[:5 if call == "reciprocal" else 3]]
-        expected = " ".join(map(str, answer(call, form, k, buffer, numbers)))
+        expected = " ".join(map(str, answer(call, table, buffer, numbers)))
         if line != expected:
-            return f"precision {k}, form {form}, {len(buffer)} bytes: printed {line[:100]!r}, expected {expected[:100]!r}"
-        asked[call, form].add(int(words[{"build": 0, "check": 0, "node": 1}.get(call, 2)]))
+            return f"{named(table)}, {len(buffer)} bytes: printed {line[:100]!r}, expected {expected[:100]!r}"
+        form, _, *guard_bits = table
+        asked[call, form, *guard_bits].add(int(words[{"build": 0, "check": 0, "node": 1}.get(call, 2)]))
         if call == "reciprocal" and numbers[2] in (0, 4, 5):
-            operands[form, k, numbers[0]].add((numbers[1], numbers[2]))
+            operands[table, numbers[0]].add((numbers[1], numbers[2]))
         if call == "check":
-            places[form, k, numbers[0]].add(numbers[1])
+            places[table, numbers[0]].add(numbers[1])
     return every_format_asked(asked) or ends_asked(operands) or places_named(places)
 
 
+def named(table):
+    form, k, a, b = table
+    return f"precision {k}, form {form}, guard bits {a} and {b}"
+
+
 def every_format_asked(asked):
-    """Both forms were asked for at all precisions, and the other numbers of the full form at two; each with every number of answer."""
-    for form in {0, 1} | FULL_TOO:
-        lent_at, none_at = ({*range(15), 2 ** 32 - 1}, {*range(21), 2 ** 32 - 1}) if form < 2 else ({0, 2}, {0, 2})
-        if not lent_at <= asked["lent", form] or not none_at <= asked["null", form]:
-            return f"form {form}: the precisions are {asked['lent', form]}, with no buffer {asked['null', form]}"
-        short = {call: asked[call, form] for call in NUMBERS if asked[call, form] != NUMBERS[call]}
+    """Both forms were asked for at all precisions with all guard bits, and the other numbers of the full form at two precisions, each with
+    every number of answer; guard bits out of range too, with 1 and 18 alone."""
+    tables = [(form, *guard_bits) for form in FORMS for guard_bits in GUARD_BITS]
+    full_too = [(form, *guard_bits) for form, guard_bits in FULL_TOO.items()]
+    wrong = [(form, *guard_bits) for form in FORMS for guard_bits in WRONG_GUARD_BITS]
+    for table in tables + full_too + wrong:
+        _, a, b = table
+        lent_at, none_at = ({0, 2}, {0, 2}) if table in full_too else (set(range(14)), {*range(21), 2 ** 32 - 1})
+        if table in wrong:
+            lent_at, none_at = ({0, 1, 2} if a == 2 or b == 3 else set()), {0, 1, 2, 12, 13, 2 ** 32 - 1}
+        if not lent_at <= asked["lent", *table] or not none_at <= asked["null", *table]:
+            return f"form and guard bits {table}: the precisions are {asked['lent', *table]}, with no buffer {asked['null', *table]}"
+        short = {call: asked[call, *table] for call in NUMBERS if asked[call, *table] != ({1, 18} if table in wrong else NUMBERS[call])}
         if short:
-            return f"form {form}: not every number was answered: {short}"
+            return f"form and guard bits {table}: not every number was answered, or others: {short}"
     return None
 
 
 def ends_asked(operands):
-    """At each precision, in both forms, the operands were asked for that Q-1 names: at each n up to 2k + 4, and at 63, the least and the
-    greatest, which are served, and the next to them, which are refused by 5; and n = 0 and 64, refused by 4."""
-    for form, k in itertools.product((0, 1), range(1, 13)):
-        for n in (*range(1, 2 * k + 5), 63):
+    """Of every table the operands were asked for that Q-1 names: at 1 fraction bit, at so many as are looked at, one less and one more, at 63, and at
+    a = 2 and b = 3 at each below, the least and the greatest, which are served, and the next to them, which are refused by 5; and n = 0 and
+    64, refused by 4."""
+    for form, k, (a, b) in itertools.product(FORMS, range(1, 13), GUARD_BITS):
+        looked_at = 2 * k + b
+        shorter = range(1, looked_at) if (a, b) == (2, 3) else (1, looked_at - 1)
+        for n in (*shorter, looked_at, looked_at + 1, 63):
             ends = {(2 ** n, 0), (2 ** (n + 1) - 1, 0), (2 ** n - 1, 5), (2 ** (n + 1) % 2 ** 64, 5)}
-            if not ends <= operands[form, k, n]:
-                return f"precision {k}, form {form}, {n} fraction bits: not found were {sorted(ends - operands[form, k, n])}"
+            found = operands[(form, k, a, b), n]
+            if not ends <= found:
+                return f"{named((form, k, a, b))}, {n} fraction bits: not found were {sorted(ends - found)}"
         for n in (0, 64):
-            if {number for _, number in operands[form, k, n]} != {4}:
-                return f"precision {k}, form {form}, {n} fraction bits: {sorted(operands[form, k, n])}"
+            found = {number for _, number in operands[(form, k, a, b), n]}
+            if found != {4}:
+                return f"{named((form, k, a, b))}, {n} fraction bits: {sorted(found)}"
     return None
 
 
 def places_named(places):
     """The check named the last word, in the full form that of node 2^k, and the image's last byte exactly where there are filling bits."""
-    for form, k in itertools.product((0, 1), range(1, 13)):
-        last, length = reference.count(k, form) - 1, reference.length(k, form)
-        filling = reference.bit_count(k, form) % 8 != 0
-        if last not in places[form, k, 6] or ((length - 1) in places[form, k, 7]) != filling:
-            return f"precision {k}, form {form}: wrong words {sorted(places[form, k, 6])}, bytes {sorted(places[form, k, 7])}"
+    for form, k, (a, b) in itertools.product(FORMS, range(1, 13), GUARD_BITS):
+        table, last, length = (form, k, a, b), reference.count(k, form) - 1, reference.length(k, form, a)
+        filling = reference.bit_count(k, form, a) % 8 != 0
+        if last not in places[table, 6] or ((length - 1) in places[table, 7]) != filling:
+            return f"{named(table)}: wrong words {sorted(places[table, 6])}, bytes {sorted(places[table, 7])}"
     return None
 
 
@@ -191,21 +218,33 @@ def constants():
 
 
 def limits():
+    """Of two table guard bits, and of any."""
     found = [tuple(map(int, row)) for row in printed_below("limits")]
-    both = (reference.PLAIN, reference.FULL)
-    expected = [(k, 2 ** k, *(size(k, form) for form in both for size in (reference.count, reference.width))) for k in range(1, 13)]
-    return None if found == expected else f"{found}"
+    expected = [(k, 2 ** k, *(size(k, form) for form in FORMS for size in (reference.count, reference.width))) for k in range(1, 13)]
+    if found != expected:
+        return f"{found}"
+    rows = {tuple(map(int, row)) for row in printed_below("words")}
+    for form, k, a, words, bits in rows:
+        if (words, bits) != (reference.count(k, form), reference.width(k, form, a)):
+            return f"precision {k}, form {form}, {a} table guard bits: {words} words of {bits} bits"
+    asked = set(itertools.product(FORMS, range(1, 13), (2, 3, 4)))
+    return None if asked <= {row[:3] for row in rows} else f"asked were {sorted(rows)}"
 
 
 def lengths():
-    """The call and the header's macros have the lengths that document 01 lists, those of the full form by Q-7, and 0 elsewhere."""
+    """The call has 0 exactly where 1 or 18 applies; the header's macro has no b, and those of two table guard bits no a."""
     rows = [tuple(map(int, row)) for row in printed_below("length")]
-    for form, k, by_call, by_macro in rows:
-        expected = (reference.length(k, form) if form else reference.LENGTHS[k - 1]) if reference.in_range(k) else 0
-        if (by_call, by_macro) != (expected, expected):
-            return f"precision {k}, form {form}: {by_call} by the call, {by_macro} by the macro"
-    asked = set(itertools.product((0, 1), (*range(21), 2 ** 32 - 1))) | set(itertools.product(FULL_TOO, (0, 2)))
-    return None if asked <= {row[:2] for row in rows} else f"asked were {rows}"
+    for form, k, a, b, *found in rows:
+        right_k, right_a = reference.in_range(k), 2 <= a <= 4
+        expected = [reference.call_image_length(k, form, a, b), reference.length(k, form, a) if right_k and right_a else 0,
+                    (reference.length(k, form) if form else reference.LENGTHS[k - 1]) if right_k else 0]
+        if found != expected:
+            return f"{named((form, k, a, b))}: by the call and by two macros {found}, expected {expected}"
+    asked = {(form, k, *guard_bits) for form in FORMS for k in (*range(21), 2 ** 32 - 1) for guard_bits in GUARD_BITS}
+    asked |= {(form, k, *guard_bits) for form in FORMS for k in (0, 1, 2, 12, 13, 2 ** 32 - 1) for guard_bits in WRONG_GUARD_BITS}
+    asked |= {(form, k, *guard_bits) for form, guard_bits in FULL_TOO.items() for k in (0, 2)}
+    missing = asked - {row[:4] for row in rows}
+    return f"not asked were {sorted(missing)[:5]}" if missing else None
 
 
 def constant_nodes():
@@ -227,11 +266,11 @@ def memory_checked():
 
 
 def past_image():
-    """The builder and the check take the buffer to its last byte, with 21 tails at each precision in each form, one of them empty, and touch
-    nothing behind it; the other calls touch no byte past the image, where the buffer is longer."""
+    """The builder and the check take the buffer to its last byte, with 21 tails for each table, one of them empty, and touch nothing behind it; the
+    other calls touch no byte past the image, where the buffer is longer."""
     calls = 0
-    for form, k in itertools.product((0, 1), range(1, 13)):
-        filling = 8 * reference.length(k, form) - reference.bit_count(k, form)
+    for form, k, (a, _) in itertools.product(FORMS, range(1, 13), GUARD_BITS):
+        filling = 8 * reference.length(k, form, a) - reference.bit_count(k, form, a)
         calls += 21 * (3 + filling) + 20 * 2 + 2 * reference.count(k, form) + 2 * 2 ** k
     found = well(built("past_image"))
     return None if found == f"{calls} of {calls}\n" else f"as they should were {found}"
@@ -240,10 +279,10 @@ def past_image():
 def rounding_modes():
     """In each of the four rounding modes, full ROMs of every format with and without a tail are the reference's, and the other calls
     answer as by default. The mode stays, and no flag is raised, but inexact by the builder."""
-    formats = [(k, form) for form in (reference.PLAIN, reference.FULL) for k in range(1, 13)]
-    calls = 4 * sum(22 + 4 * 2 ** k + (2 if reference.bit_count(k, form) % 8 else 0) for k, form in formats)
-    images = b"".join(reference.image(k, form) for k, form in formats)
-    found = well(built("rounding", "-lm"), stdin=None, input=images)
+    images = list(itertools.product(FORMS, (2, 3, 4), range(1, 13)))
+    calls = 4 * 3 * sum(24 + 4 * 2 ** k + (2 if reference.bit_count(k, form, a) % 8 else 0) for form, a, k in images)
+    given = b"".join(reference.image(k, form, a) for form, a, k in images)
+    found = well(built("rounding", "-lm"), stdin=None, input=given)
     return None if found == f"{calls} calls\n" else f"{calls} calls are to be made, and it says {found!r}"
 
 
@@ -317,12 +356,12 @@ def tests():
         ["gcc"], "header_alone.c", ["-fpack-struct=1"], "size of array .yildegga_laid_out_as_in_the_archive. is negative")
     yield "c: another machine is refused", lambda: refused(["gcc"], "header_alone.c", ["-m32"], "#error .libyildegga.a is for x86-64")
     yield "c: the constants of the header", constants
-    yield "c: the limits of each precision", limits
-    yield "c: the image lengths of both forms, by the call and by the header", lengths
+    yield "c: the limits of each precision, of two table guard bits and of any", limits
+    yield "c: the image lengths of both forms and all guard bits, by the call and by the header", lengths
     yield "c: the constant nodes of precision 8", constant_nodes
-    yield "c: every call around every limit, in both forms, between guard bytes, by the reference", calls_compared
+    yield "c: every call around every limit, in both forms, with all guard bits, between guard bytes, by the reference", calls_compared
     yield "c: every call around every limit, under valgrind", memory_checked
-    yield "c: the builder and the check take the buffer to its end, and the other calls no more than the image, in both forms", past_image
+    yield "c: the builder and the check take the buffer to its end, and the other calls no more than the image, of every format", past_image
     yield "c: the same bytes and answers in every rounding mode, which stays, and no flag but inexact by the builder", rounding_modes
     yield "c: the archive calls nothing outside itself but memset", asked_for
     yield "c: make install, and pkg-config finds it", installed

@@ -34,13 +34,24 @@ NO_NUMBER = ["", " ", "x", "-1", "-0", "+", "+0", "+2", "++2", " 2", "2 ", "2\n"
              "18446744073709551616", "18446744073709551618", "9" * 20, "1" + "0" * 20, "9" * 400]
 WIDE = ["4294967296", "4294967298", "18446744073709551615"]  # numbers, but of more than 32 bits
 PRECISIONS = ["0", "1", "2", "002", "0" * 400 + "2", "3", "12", "13", "258", "4294967295"]
+# Pairs of guard bits, in range and out of it, and pairs of which one, or both, are no numbers.
+GUARD_BITS = [[a, b] for a in ("2", "3", "4") for b in ("3", "4", "5")]
+WRONG_GUARD_BITS = [[a, "3"] for a in ("0", "1", "5", "258", "2147483648", "4294967295")] + [
+    ["2", b] for b in ("0", "2", "6", "259", "2147483648", "4294967295")] + [["5", "6"], ["3", "2"], ["0", "0"], ["002", "0" * 400 + "3"]]
+NO_GUARD_BITS = [pair for text in NO_NUMBER + WIDE for pair in ([text, "3"], ["2", text], ["5", text], [text, "y"])]
 
 
 def bench_words():
-    for words in ([], ["2", "2"], ["2", ""], ["", ""], ["x", "y"], ["13", "2"], ["--help"]):
+    for words in ([], ["2", "2"], ["2", ""], ["", ""], ["x", "y"], ["13", "2"], ["--help"], ["2", "2", "3", "3"], ["", "", ""], ["x", "y", "z"],
+                  ["x", "2", "3"], ["x", "5", "6"], ["--help", "2", "3"]):
         yield words, b""
     for k in [*map(str, range(1, 13)), *PRECISIONS, *NO_NUMBER, *WIDE]:
         yield [k], b""
+    for k in "1", "2", "3", "12", "0", "13":
+        for guard_bits in GUARD_BITS + WRONG_GUARD_BITS:
+            yield [k, *guard_bits], b""
+    for guard_bits in NO_GUARD_BITS:
+        yield ["2", *guard_bits], b""
 
 
 def order_image():
@@ -48,6 +59,9 @@ def order_image():
                   ["2", "n" * 300], ["2", "right"], ["2", "twelve, longer"], ["2", "/dev/full"], ["12", "/dev/full"],
                   ["13", "none/new"], ["13", "right"], ["+2", "right"], ["--help"], ["--help", "new"],
                   ["2", "new", "4", "4"], ["2", "new", "other"], ["2", "4", "new"], ["", "", ""], ["2", "", "4"], ["2", "right", "2"],
+                  ["2", "new", "4", "2", "3", "3"], ["2", "new", "2", "3", "new"], ["", "", "", ""], ["", "", "", "", ""], ["x", "new", "x", "y", "z"],
+                  ["2", "new", "x", "y", "z"], ["2", "new", "4", "y", "z"], ["2", "none/new", "4", "5"], ["2", "none/new", "4", "5", "6"],
+                  ["2", "/dev/full", "65536", "4", "5"], ["12", "twelve, longer", "4", "5"], ["2", "new", "18446744073709551615", "5", "3"],
                   ["2", "right", "x"], ["2", "right", "18446744073709551615"], ["2", "/dev/full", "65536"], ["2", "none/new", "4"],
                   ["2", "none/new", "2"], ["2", "twelve, longer", "4"], ["2", "short", "65536"], ["13", "new", "18446744073709551615"]):
         yield words, b""
@@ -58,6 +72,15 @@ def order_image():
             yield [k, "new", size], b""
     for size in NO_NUMBER + ["9223372036854775807", "9223372036854775808", "18446744073709551615"]:
         yield ["2", "new", size], b""
+        yield ["2", "new", size, "4", "5"], b""
+    for k in "1", "2", "12", "13", "0":
+        for guard_bits in GUARD_BITS + WRONG_GUARD_BITS:
+            yield [k, "new", *guard_bits], b""
+            for size in "0", "1", "2", "3", "4", "65536":
+                yield [k, "new", size, *guard_bits], b""
+    for guard_bits in NO_GUARD_BITS:
+        yield ["2", "new", *guard_bits], b""
+        yield ["2", "new", "4", *guard_bits], b""
 
 
 def proofread():
@@ -154,10 +177,10 @@ def streams_agree():
 
 
 def same_words():
-    """The refusals are in the same words, seven of them."""
+    """The refusals are in the same words, eight of them."""
     in_c = re.findall(r'^    case YILDEGGA_\w+: return "(.*)";$', (ROOT / "c" / "examples" / "caller.h").read_text(), re.M)
     in_rust = re.findall(r'^            Refusal::\w+ => "(.*)",$', (ROOT / "rust" / "src" / "refusal.rs").read_text(), re.M)
-    return None if in_c == in_rust and len(in_c) == 7 else f"in C {in_c}, in Rust {in_rust}"
+    return None if in_c == in_rust and len(in_c) == 8 else f"in C {in_c}, in Rust {in_rust}"
 
 
 def same_version():

@@ -40,6 +40,7 @@ static inline const char *refusal(uint32_t number)
 {
     switch (number) {
     case YILDEGGA_PRECISION: return "the precision is below 1 or above 12";
+    case YILDEGGA_GUARD_BITS: return "the table guard bits are not 2 to 4, or the input guard bits not 3 to 5";
     case YILDEGGA_SHORT_BUFFER: return "the buffer is shorter than the image";
     case YILDEGGA_NODE_NUMBER: return "the node number is above 2^k";
     case YILDEGGA_FRACTION_BITS: return "the fraction bits are fewer than 1 or more than 63";

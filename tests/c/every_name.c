@@ -1,6 +1,6 @@
 /* Uses every name of the header, in C and in C++, with all that a compiler warns of counting as an error. It ends with status 0
-   where the calls serve at precision 2 as document 01 has it, and an operand of one fraction bit, a full ROM of eight bytes and
-   full words too. */
+   where the calls serve at precision 2 as document 01 has it, and an operand of one fraction bit, a full ROM of eight bytes, full
+   words and other guard bits too. */
 #include <yildegga.h>
 
 static uint8_t image[YILDEGGA_IMAGE_LENGTH(2)];
@@ -13,12 +13,24 @@ static const size_t full_lengths[] = {
     YILDEGGA_FULL_IMAGE_LENGTH(0), YILDEGGA_FULL_IMAGE_LENGTH(1), YILDEGGA_FULL_IMAGE_LENGTH(YILDEGGA_GREATEST_PRECISION),
     YILDEGGA_FULL_IMAGE_LENGTH(13), YILDEGGA_FULL_IMAGE_LENGTH(4294967295u)};
 static const size_t right_full_lengths[] = {0, 3, YILDEGGA_FULL_LONGEST_IMAGE, 0, 0};
+static uint8_t guarded_image[YILDEGGA_TABLE_IMAGE_LENGTH(1, YILDEGGA_PLAIN_WORDS, 3)];
+static const size_t guarded_lengths[] = {
+    YILDEGGA_TABLE_IMAGE_LENGTH(0, YILDEGGA_PLAIN_WORDS, 3), YILDEGGA_TABLE_IMAGE_LENGTH(13, YILDEGGA_FULL_WORDS, 3),
+    YILDEGGA_TABLE_IMAGE_LENGTH(4294967295u, YILDEGGA_FULL_WORDS, 3), YILDEGGA_TABLE_IMAGE_LENGTH(2, YILDEGGA_FULL_WORDS, 0),
+    YILDEGGA_TABLE_IMAGE_LENGTH(2, YILDEGGA_FULL_WORDS, 1), YILDEGGA_TABLE_IMAGE_LENGTH(2, YILDEGGA_PLAIN_WORDS, 5),
+    YILDEGGA_TABLE_IMAGE_LENGTH(2, YILDEGGA_PLAIN_WORDS, 4294967295u),
+    YILDEGGA_TABLE_IMAGE_LENGTH(YILDEGGA_GREATEST_PRECISION, YILDEGGA_PLAIN_WORDS, YILDEGGA_LEAST_TABLE_GUARD_BITS),
+    YILDEGGA_TABLE_IMAGE_LENGTH(YILDEGGA_GREATEST_PRECISION, YILDEGGA_FULL_WORDS, YILDEGGA_LEAST_TABLE_GUARD_BITS),
+    YILDEGGA_TABLE_IMAGE_LENGTH(YILDEGGA_GREATEST_PRECISION, YILDEGGA_FULL_WORDS, YILDEGGA_GREATEST_TABLE_GUARD_BITS)};
+static const size_t right_guarded_lengths[] = {
+    0, 0, 0, 0, 0, 0, 0, YILDEGGA_LONGEST_IMAGE, YILDEGGA_FULL_LONGEST_IMAGE, YILDEGGA_ANY_LONGEST_IMAGE};
 
 static int place_has_a_meaning(uint32_t number)
 {
     switch (number) {
     case YILDEGGA_SERVED:
     case YILDEGGA_PRECISION:
+    case YILDEGGA_GUARD_BITS:
     case YILDEGGA_SHORT_BUFFER:
     case YILDEGGA_NODE_NUMBER:
     case YILDEGGA_FRACTION_BITS:
@@ -66,6 +78,44 @@ static int full_words(void)
     return checked.number == YILDEGGA_TAIL_NOT_ZERO && checked.place == 2 ? 0 : 31;
 }
 
+/* Three table guard bits at precision 1: nodes 64, 43 and 32, words of 5 bits, and filling bits in the plain form. */
+static int other_guard_bits(void)
+{
+    const uint32_t k = 1, form = YILDEGGA_PLAIN_WORDS, a = 3, b = YILDEGGA_GREATEST_INPUT_GUARD_BITS;
+    const yildegga_format format = YILDEGGA_TABLE(k, form, a, b), plain = YILDEGGA_PLAIN(k), full = YILDEGGA_FULL(k);
+    for (size_t at = 0; at < sizeof guarded_lengths / sizeof guarded_lengths[0]; at++)
+        if (guarded_lengths[at] != right_guarded_lengths[at])
+            return 41;
+    if (format.precision != 1 || format.form != 0 || format.table_guard_bits != 3 || format.input_guard_bits != 5)
+        return 42;
+    if (plain.table_guard_bits != 2 || plain.input_guard_bits != 3 || full.table_guard_bits != 2 || full.input_guard_bits != 3)
+        return 43;
+    if (YILDEGGA_TABLE_WORD_BITS(k, form, a) != 5 || YILDEGGA_TABLE_WORD_COUNT(k, form) != 2)
+        return 44;
+    if (YILDEGGA_TABLE_WORD_BITS(k, YILDEGGA_FULL_WORDS, a) != 7 || YILDEGGA_TABLE_WORD_COUNT(k, YILDEGGA_FULL_WORDS) != 3)
+        return 45;
+    if (yildegga_image_length(format) != sizeof guarded_image)
+        return 46;
+    if (yildegga_build(format, guarded_image, sizeof guarded_image).number != YILDEGGA_SERVED)
+        return 47;
+    if (guarded_image[0] != 0x02 || guarded_image[1] != 0xC0)
+        return 48;
+    yildegga_node_read node = yildegga_node(format, guarded_image, sizeof guarded_image, 1);
+    if (node.value.count != 43)
+        return 49;
+    yildegga_reciprocal_given given = yildegga_reciprocal(format, guarded_image, sizeof guarded_image, 1, 3); /* node 1 */
+    if (given.value.count != node.value.count / YILDEGGA_TABLE_UNITS_IN_ULP(a))
+        return 50;
+    const uint32_t wrong_a = YILDEGGA_GREATEST_TABLE_GUARD_BITS + 1, wrong_b = YILDEGGA_LEAST_INPUT_GUARD_BITS - 1;
+    if (yildegga_build(YILDEGGA_TABLE(k, form, wrong_a, b), guarded_image, 0).number != YILDEGGA_GUARD_BITS)
+        return 51;
+    if (yildegga_build(YILDEGGA_TABLE(k, form, a, wrong_b), guarded_image, 0).number != YILDEGGA_GUARD_BITS)
+        return 52;
+    guarded_image[1] = 0xC1; /* a filling bit */
+    yildegga_done checked = yildegga_check(format, guarded_image, sizeof guarded_image);
+    return checked.number == YILDEGGA_TAIL_NOT_ZERO && checked.place == 1 ? 0 : 53;
+}
+
 int main(void)
 {
     const uint32_t k = 2;
@@ -99,7 +149,7 @@ int main(void)
 
     yildegga_reciprocal_given given = yildegga_reciprocal(YILDEGGA_PLAIN(k), image, sizeof image, 7, 135);
     yildegga_ulps ulps = given.value;
-    if (ulps.count * YILDEGGA_TABLE_UNITS_IN_ULP != 120)
+    if (ulps.count * YILDEGGA_TABLE_UNITS_IN_ULP(2) != 120)
         return 8;
     given = yildegga_reciprocal(YILDEGGA_PLAIN(k), image, sizeof image, YILDEGGA_LEAST_FRACTION_BITS, 3); /* node 2, 86 table units */
     if (given.value.count != 21)
@@ -121,5 +171,6 @@ int main(void)
     done = yildegga_check(YILDEGGA_PLAIN(k), rom, sizeof rom);
     if (done.number != YILDEGGA_TAIL_NOT_ZERO || place_has_a_meaning(done.number) != 1 || done.place != 7)
         return 13;
-    return full_words();
+    const int status = full_words();
+    return status ? status : other_guard_bits();
 }

@@ -1,6 +1,7 @@
 /* Lends bytes that end where the machine lets nothing be read or written: a call that touches one behind them is stopped. All is done in
-   both forms. For the calls that take the image alone, the image ends there, and the buffer is said to go on; for the builder and the check, which take the tail
-   too, the buffer ends there. Where nothing is stopped, it prints how many calls answered as they should, and how many there were. */
+   both forms and with all guard bits. For the calls that take the image alone, the image ends there, and the buffer is said to go on; for
+   the builder and the check, which take the tail too, the buffer ends there. Where nothing is stopped, it prints how many calls answered as
+   they should, and how many there were. */
 #define _DEFAULT_SOURCE /* mmap's MAP_ANONYMOUS */
 #include <stdbool.h>
 #include <stdio.h>
@@ -34,15 +35,10 @@ static bool all_are(const uint8_t *bytes, size_t count, uint8_t value)
 /* The table that is asked for: its format, its image's bytes, its words, and the bits that they are. */
 struct table { yildegga_format format; size_t image; uint32_t words; size_t bits; };
 
-static struct table plain(uint32_t k)
+static struct table table_of(uint32_t k, uint32_t form, uint32_t a, uint32_t b)
 {
-    return (struct table){YILDEGGA_PLAIN(k), YILDEGGA_IMAGE_LENGTH(k), YILDEGGA_WORD_COUNT(k), YILDEGGA_WORD_COUNT(k) * YILDEGGA_WORD_BITS(k)};
-}
-
-static struct table full(uint32_t k)
-{
-    return (struct table){YILDEGGA_FULL(k), YILDEGGA_FULL_IMAGE_LENGTH(k), YILDEGGA_FULL_WORD_COUNT(k),
-                          YILDEGGA_FULL_WORD_COUNT(k) * YILDEGGA_FULL_WORD_BITS(k)};
+    uint32_t words = YILDEGGA_TABLE_WORD_COUNT(k, form);
+    return (struct table){YILDEGGA_TABLE(k, form, a, b), YILDEGGA_TABLE_IMAGE_LENGTH(k, form, a), words, words * YILDEGGA_TABLE_WORD_BITS(k, form, a)};
 }
 
 static bool checked(struct table table, const uint8_t *rom, size_t length, uint32_t number, uint64_t place)
@@ -80,8 +76,9 @@ static void whole_buffer(struct table table, size_t tail)
 }
 
 /* The other calls read no byte past the image. */
-static void image_alone(struct table table, uint32_t k)
+static void image_alone(struct table table)
 {
+    uint32_t k = table.format.precision;
     uint8_t *image = end - table.image;
     size_t length = table.image + PAGE;
     yildegga_build(table.format, image, table.image);
@@ -96,21 +93,26 @@ static void image_alone(struct table table, uint32_t k)
     }
 }
 
-int main(void)
+static void all_of(struct table table)
 {
     static const size_t tails[] = {0, 1, 2, 7, 8, 9, 15, 16, 17, 31, 32, 33, 63, 64, 65, 70, 127, 128, 129, 1000, 3 * PAGE};
+    for (size_t each = 0; each < COUNT(tails); each++)
+        whole_buffer(table, tails[each]);
+    image_alone(table);
+}
+
+int main(void)
+{
     pages = mmap(NULL, (PAGES + 1) * PAGE, PROT_READ | PROT_WRITE, MAP_PRIVATE | MAP_ANONYMOUS, -1, 0);
     if (pages == MAP_FAILED || mprotect(pages + PAGES * PAGE, PAGE, PROT_NONE) != 0)
         return 3;
     end = pages + PAGES * PAGE;
-    for (uint32_t k = YILDEGGA_LEAST_PRECISION; k <= YILDEGGA_GREATEST_PRECISION; k++) {
-        for (size_t each = 0; each < COUNT(tails); each++) {
-            whole_buffer(plain(k), tails[each]);
-            whole_buffer(full(k), tails[each]);
-        }
-        image_alone(plain(k), k);
-        image_alone(full(k), k);
-    }
+    for (uint32_t k = YILDEGGA_LEAST_PRECISION; k <= YILDEGGA_GREATEST_PRECISION; k++)
+        for (uint32_t a = YILDEGGA_LEAST_TABLE_GUARD_BITS; a <= YILDEGGA_GREATEST_TABLE_GUARD_BITS; a++)
+            for (uint32_t b = YILDEGGA_LEAST_INPUT_GUARD_BITS; b <= YILDEGGA_GREATEST_INPUT_GUARD_BITS; b++) {
+                all_of(table_of(k, YILDEGGA_PLAIN_WORDS, a, b));
+                all_of(table_of(k, YILDEGGA_FULL_WORDS, a, b));
+            }
     printf("%lu of %lu\n", right, calls);
     return right == calls ? 0 : 1;
 }

@@ -1,9 +1,10 @@
-/* Makes the calls in each of the four rounding modes, in both forms. The builder computes with doubles, and must leave the same bytes in every mode; the other
-   calls must answer as in the default one. No call changes the mode or another setting of the arithmetic, and none raises a flag of the
-   floating-point environment, but for the builder, which may raise inexact.
+/* Makes the calls in each of the four rounding modes, in both forms, with all guard bits. The builder computes with doubles, and must leave the
+   same bytes in every mode; the other calls must answer as in the default one. No call changes the mode or another setting of the
+   arithmetic, and none raises a flag of the floating-point environment, but for the builder, which may raise inexact.
 
-   Standard input has the right images of precision 1 to 12 in a row, first the plain ones, then the full ones. At the first call that is not as it should be, the program says which
-   it is and ends with status 1; where there is none, it prints how many calls were made. */
+   Standard input has the right images of precision 1 to 12 in a row, with 2 table guard bits, with 3 and with 4, first the plain ones, then
+   the full ones. At the first call that is not as it should be, the program says which it is and ends with status 1; where there is none,
+   it prints how many calls were made. */
 #include <fenv.h>
 #include <inttypes.h>
 #include <stdbool.h>
@@ -22,28 +23,24 @@
 static const struct { int mode; const char *name; } modes[] = {
     {FE_TONEAREST, "to the nearest"}, {FE_UPWARD, "upward"}, {FE_DOWNWARD, "downward"}, {FE_TOWARDZERO, "toward zero"}};
 
-static uint8_t right[YILDEGGA_FULL_LONGEST_IMAGE]; /* the image of the format that is asked for */
-static uint8_t block[GUARD + YILDEGGA_FULL_LONGEST_IMAGE + TAIL + GUARD], expected[sizeof block];
+static uint8_t right[YILDEGGA_ANY_LONGEST_IMAGE]; /* the image of the format that is asked for */
+static uint8_t block[GUARD + YILDEGGA_ANY_LONGEST_IMAGE + TAIL + GUARD], expected[sizeof block];
 static uint8_t *const lent = block + GUARD;
 
 /* ---- before and behind each call */
 
-static uint32_t k;
-static bool full; /* the form */
+static uint32_t k, form, a, b;
+static yildegga_format format; /* of these */
 static size_t mode; /* its number in the list; the default one is the first */
 static unsigned long calls;
 static unsigned settings;
-
-static yildegga_format format_of(uint32_t precision)
-{
-    return full ? YILDEGGA_FULL(precision) : YILDEGGA_PLAIN(precision);
-}
 
 static void see(bool as_it_should, const char *call, const char *what)
 {
     if (as_it_should)
         return;
-    fprintf(stderr, "precision %" PRIu32 "%s, rounding %s: %s %s\n", k, full ? ", full words" : "", modes[mode].name, call, what);
+    fprintf(stderr, "precision %" PRIu32 "%s, guard bits %" PRIu32 " and %" PRIu32 ", rounding %s: %s %s\n", k, form ? ", full words" : "", a, b,
+            modes[mode].name, call, what);
     exit(1);
 }
 
@@ -78,16 +75,16 @@ static void same(const char *call, uint32_t number, uint64_t place, uint64_t val
 }
 
 /* The builder leaves the right image and zeros to the buffer's end, or where it is turned back what it found, and the guards in any case. */
-static void build(uint32_t asked, size_t length, uint32_t number)
+static void build(yildegga_format asked, size_t length, uint32_t number)
 {
     memset(block, FOUND, sizeof block);
     memset(expected, FOUND, sizeof expected);
     if (number == YILDEGGA_SERVED) {
         memset(expected + GUARD, 0, length);
-        memcpy(expected + GUARD, right, yildegga_image_length(format_of(k)));
+        memcpy(expected + GUARD, right, yildegga_image_length(format));
     }
     enter();
-    yildegga_done answer = yildegga_build(format_of(asked), lent, length);
+    yildegga_done answer = yildegga_build(asked, lent, length);
     leave("build", FE_INEXACT);
     see(answer.number == number && answer.place == 0 && answer.value == 0, "build", "answers otherwise than it should");
     see(memcmp(block, expected, sizeof block) == 0, "build", "leaves other bytes than it should");
@@ -96,7 +93,7 @@ static void build(uint32_t asked, size_t length, uint32_t number)
 static void check(size_t length, uint32_t number)
 {
     enter();
-    yildegga_done answer = yildegga_check(format_of(k), lent, length);
+    yildegga_done answer = yildegga_check(format, lent, length);
     leave("check", 0);
     see(answer.number == number, "check", "answers otherwise than it should");
     same("check", answer.number, answer.place, answer.value);
@@ -105,7 +102,7 @@ static void check(size_t length, uint32_t number)
 static void node(size_t length, uint32_t j)
 {
     enter();
-    yildegga_node_read answer = yildegga_node(format_of(k), lent, length, j);
+    yildegga_node_read answer = yildegga_node(format, lent, length, j);
     leave("node", 0);
     same("node", answer.number, answer.place, answer.value.count);
 }
@@ -121,7 +118,7 @@ static void node_8(uint32_t j)
 static void word_bytes(size_t length, uint32_t j)
 {
     enter();
-    yildegga_part part = yildegga_word_bytes(format_of(k), lent, length, j);
+    yildegga_part part = yildegga_word_bytes(format, lent, length, j);
     leave("word_bytes", 0);
     same("word_bytes", 0, part.offset, part.count);
 }
@@ -129,7 +126,7 @@ static void word_bytes(size_t length, uint32_t j)
 static void reciprocal(size_t length, uint32_t n, uint64_t x)
 {
     enter();
-    yildegga_reciprocal_given answer = yildegga_reciprocal(format_of(k), lent, length, n, x);
+    yildegga_reciprocal_given answer = yildegga_reciprocal(format, lent, length, n, x);
     leave("reciprocal", 0);
     same("reciprocal", answer.number, answer.place, answer.value.count);
 }
@@ -137,13 +134,13 @@ static void reciprocal(size_t length, uint32_t n, uint64_t x)
 static size_t image_length(void)
 {
     enter();
-    size_t length = yildegga_image_length(format_of(k));
+    size_t length = yildegga_image_length(format);
     leave("image_length", 0);
     same("image_length", 0, 0, length);
     return length;
 }
 
-/* ---- the cases of a format in a mode: 4 calls for each node below the last, and 22 others, 24 where there are filling bits */
+/* ---- the cases of a format in a mode: 4 calls for each node below the last, and 24 others, 26 where there are filling bits */
 
 static void flip(size_t bit)
 {
@@ -153,16 +150,18 @@ static void flip(size_t bit)
 static void cases(void)
 {
     size_t image = image_length(), longer = image + TAIL;
-    uint32_t last = YILDEGGA_LAST_NODE(k), words = full ? YILDEGGA_FULL_WORD_COUNT(k) : YILDEGGA_WORD_COUNT(k);
-    size_t bits = words * (full ? YILDEGGA_FULL_WORD_BITS(k) : YILDEGGA_WORD_BITS(k));
-    build(k + YILDEGGA_GREATEST_PRECISION, longer, YILDEGGA_PRECISION);
-    build(k, image - 1, YILDEGGA_SHORT_BUFFER);
-    build(k, longer, YILDEGGA_SERVED);
+    uint32_t last = YILDEGGA_LAST_NODE(k), words = YILDEGGA_TABLE_WORD_COUNT(k, form);
+    size_t bits = words * YILDEGGA_TABLE_WORD_BITS(k, form, a);
+    build(YILDEGGA_TABLE(k + YILDEGGA_GREATEST_PRECISION, form, a, b), longer, YILDEGGA_PRECISION);
+    build(YILDEGGA_TABLE(k, form, a + 3, b), longer, YILDEGGA_GUARD_BITS);
+    build(YILDEGGA_TABLE(k, form, a, b - 3), longer, YILDEGGA_GUARD_BITS);
+    build(format, image - 1, YILDEGGA_SHORT_BUFFER);
+    build(format, longer, YILDEGGA_SERVED);
     check(longer, YILDEGGA_SERVED);
     lent[longer - 1] = 1;
     check(longer, YILDEGGA_TAIL_NOT_ZERO);
 
-    build(k, image, YILDEGGA_SERVED);
+    build(format, image, YILDEGGA_SERVED);
     check(image, YILDEGGA_SERVED);
     for (uint32_t j = 0; j < last; j++) {
         uint64_t at = (uint64_t)(last + j) << (63 - k);
@@ -195,23 +194,32 @@ static void cases(void)
     node(image, 0);
 }
 
-/* All formats in the order of the input. False where it does not hold their images. */
+/* The format in each mode. */
+static void in_modes(void)
+{
+    for (mode = 0; mode < COUNT(modes); mode++) {
+        if (fesetround(modes[mode].mode) != 0)
+            exit(3);
+        answered = 0;
+        cases();
+    }
+    fesetround(modes[0].mode);
+}
+
+/* All formats: the images in the order of the input, with each number of input guard bits. False where it does not hold the images. */
 static bool formats(void)
 {
-    for (unsigned form = 0; form < 2; form++)
-        for (k = YILDEGGA_LEAST_PRECISION; k <= YILDEGGA_GREATEST_PRECISION; k++) {
-            full = form == 1;
-            size_t image = yildegga_image_length(format_of(k));
-            if (fread(right, 1, image, stdin) != image)
-                return false;
-            for (mode = 0; mode < COUNT(modes); mode++) {
-                if (fesetround(modes[mode].mode) != 0)
+    for (form = YILDEGGA_PLAIN_WORDS; form <= YILDEGGA_FULL_WORDS; form++)
+        for (a = YILDEGGA_LEAST_TABLE_GUARD_BITS; a <= YILDEGGA_GREATEST_TABLE_GUARD_BITS; a++)
+            for (k = YILDEGGA_LEAST_PRECISION; k <= YILDEGGA_GREATEST_PRECISION; k++) {
+                size_t image = YILDEGGA_TABLE_IMAGE_LENGTH(k, form, a);
+                if (fread(right, 1, image, stdin) != image)
                     return false;
-                answered = 0;
-                cases();
+                for (b = YILDEGGA_LEAST_INPUT_GUARD_BITS; b <= YILDEGGA_GREATEST_INPUT_GUARD_BITS; b++) {
+                    format = YILDEGGA_TABLE(k, form, a, b);
+                    in_modes();
+                }
             }
-            fesetround(modes[0].mode);
-        }
     return getchar() == EOF;
 }
 
