@@ -12,17 +12,23 @@ from c_build import need
 ROOT = pathlib.Path(__file__).resolve().parent.parent
 BUILT = ROOT / "target" / "cargo"
 
-# The parts of a run, each with the cases that it has at least, in both forms together.
-CUT = sum(2 ** (2 * k + 3) for k in range(1, 13))
+# The parts of a run, each with the cases that it has at least, in both forms together. Those that do not say otherwise have two table guard bits and
+# three input guard bits.
+OTHERS = [(a, b) for a in (2, 3, 4) for b in (3, 4, 5) if (a, b) != (2, 3)]
 
 
-def short(greatest):
-    """The short operands at the precisions up to one, in one form."""
-    return sum(2 ** n for k in range(1, greatest + 1) for n in range(1, 2 * k + 3))
+def cut(greatest, b=3):
+    """The operands of as many fraction bits as are looked at, at the precisions up to one, in one form."""
+    return sum(2 ** (2 * k + b) for k in range(1, greatest + 1))
+
+
+def short(greatest, b=3):
+    """The operands of fewer."""
+    return sum(2 ** n for k in range(1, greatest + 1) for n in range(1, 2 * k + b))
 
 
 WHOLE = {
-    "every cut operand": 2 * CUT,
+    "every cut operand": 2 * cut(12),
     "longer operands": 73_000_000 + 9_000_000,
     "every short operand": short(12) + 20_000_000,
     "bits to the right of short operands": 20_000_000 + 4_500_000,
@@ -43,27 +49,48 @@ WHOLE = {
     "a tail beyond 4 GiB": 17,
     "refusals": 98_000_000 + 15_000_000,
     "upper halves of registers": 37_000,
-    "no bytes": 4 * 890_000,
+    "no bytes": 4 * 890_000 + 1_600_000,
     "fences": 800_000,
+    "cut operands with other guard bits": 2 * sum(cut(8, b) for _, b in OTHERS) + 166_000_000,
+    "longer operands with other guard bits": 35_000_000,
+    "short operands with other guard bits": 2 * sum(short(8, b) for _, b in OTHERS) + 44_000_000,
+    "bits to the right of short operands with other guard bits": 34_000_000,
+    "limits of operands with other guard bits": 8 * 4 * 19_000,
+    "image lengths with other guard bits": 1_400_000,
+    "images built with other guard bits": 69_000,
+    "images read with other guard bits": 3_100_000,
+    "one bit changed with other guard bits": 7_300_000,
+    "two bits changed with other guard bits": 7_800_000,
+    "any content with other guard bits": 5_000_000,
+    "contents of short images with other guard bits": 29_000_000,
+    "tails built with other guard bits": 56_000,
+    "tails with one bit changed with other guard bits": 9_100_000,
+    "tails with more than one byte changed with other guard bits": 1_700_000,
+    "filling bits with other guard bits": 9_500_000,
+    "guard bits out of range": 10_500_000,
+    "upper halves of registers with other guard bits": 370_000,
+    "fences with other guard bits": 1_700_000,
 }
 MEMORY = {
-    "blocks not written to": 240,
-    "images built": 1_900,
-    "images read": 130_000,
+    "blocks not written to": 320,
+    "images built": 2_800,
+    "images read": 198_000,
     "every short operand": 2 * short(4),
     "bits to the right of short operands": 220_000,
-    "limits of operands": 4 * 19_000,
-    "one bit changed": 43_000,
-    "two bits changed": 25_000,
-    "any content": 130_000,
+    "limits of operands": 4 * 26_000,
+    "one bit changed": 63_000,
+    "two bits changed": 35_000,
+    "any content": 200_000,
     "every content of the shortest images": 12_000,
-    "tails built": 880,
-    "tails with one bit changed": 140_000,
-    "tails with more than one byte changed": 26_000,
-    "filling bits": 81_000,
+    "contents of short images with other guard bits": 160_000,
+    "tails built": 1_100,
+    "tails with one bit changed": 186_000,
+    "tails with more than one byte changed": 34_000,
+    "filling bits": 140_000,
     "refusals": 2_700_000,
+    "guard bits out of range": 460_000,
     "upper halves of registers": 37_000,
-    "fences": 140_000,
+    "fences": 290_000,
 }
 
 

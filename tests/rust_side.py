@@ -1,5 +1,6 @@
 """Tests of the Rust crate in rust/: its own tests and documentation, its four examples against reference.py, and what its files owe."""
 import functools
+import itertools
 import os
 import pathlib
 import random
@@ -147,7 +148,9 @@ REFUSED = {
     "ulps as table units": ("E0308", "let value: TableUnits = reciprocal(Format::plain(2), image, 7, 135)?;\nOk(value.0 as usize)"),
     "table units compared with ulps": ("E0308", "Ok((TableUnits(1) == Ulps(1)) as usize)"),
     "a precision as a format": ("E0308", "check(2, image)?;\nOk(0)"),
-    "a format made of its parts": ("E0451", "check(Format { precision: 2, form: Form::Full }, image)?;\nOk(0)"),
+    "a format made of its parts": ("E0451", "let form = Form::Full;\n"
+                                            "check(Format { precision: 2, form, table_guard_bits: 2, input_guard_bits: 3 }, image)?;\nOk(0)"),
+    "table guard bits alone": ("E0061", "check(Format::plain(2).with_guard_bits(2), image)?;\nOk(0)"),
     "an image changed while a table is bound to it": ("E0506", "let table = BoundTable::new(Format::plain(2), image);\nimage[0] = 0;\n"
                                                              "table.node(0)?;\nOk(0)"),
     "an image built while a word of it is held": ("E0502", "let part = word_bytes(Format::full(2), image, 1);\n"
@@ -179,12 +182,13 @@ def compiled(name):
 OTHER_ARCHIVE = """
 #include <stddef.h>
 #include <stdint.h>
-struct format { uint32_t precision; uint32_t form; };
+struct format { uint32_t precision; uint32_t form; uint32_t table_guard_bits; uint32_t input_guard_bits; };
 struct answer { uint32_t number; uint64_t place; uint64_t value; };
 struct answer yildegga_build(struct format format, uint8_t *image, size_t length)
 {
+    uint32_t numbers[4] = {format.precision, format.form, format.table_guard_bits, format.input_guard_bits};
     for (size_t at = 0; at < length; at++)
-        image[at] = (uint8_t)(16 * format.form + format.precision);
+        image[at] = (uint8_t)numbers[at % 4];
     return (struct answer) {0, 0, 0};
 }
 """
@@ -200,8 +204,8 @@ def archive_found():
         def build():
             return cargo("build", "--example", "order_image", YILDEGGA_LIB_DIR=str(lib), CARGO_TARGET_DIR=str(folder / "cargo"))
 
-        def order():
-            run([folder / "cargo" / "debug" / "examples" / "order_image", "2", folder / "image"])
+        def order(*more):
+            run([folder / "cargo" / "debug" / "examples" / "order_image", "2", folder / "image", *more])
             return (folder / "image").read_bytes()
 
         absent = build()
@@ -215,7 +219,8 @@ def archive_found():
         why = end(run(["gcc", "-O1", "-fPIC", "-c", "other.c", "-o", "other.o"], cwd=folder))
         (lib / "libyildegga.a").unlink()
         why = why or end(run(["ar", "rc", lib / "libyildegga.a", "other.o"], cwd=folder)) or end(build())
-        return why or (None if order() == b"\2\2\2" else f"with another archive ordered {order()!r}")
+        ordered_there = why or [order(), order("4", "5")]
+        return why or (None if ordered_there == [b"\2\0\2", b"\2\0\4\5"] else f"with another archive ordered {ordered_there}")
 
 
 # ---- the examples
@@ -256,13 +261,32 @@ def ordered():
         return None if (pathlib.Path(folder) / "image 2").read_bytes() == bytes.fromhex("02758A") else "the image of precision 2"
 
 
+def ordered_with_guard_bits():
+    """The same with each number of table guard bits, which decides the image, and of input guard bits, which does not; that of precision 1
+    with three table guard bits is 02 C0."""
+    with tempfile.TemporaryDirectory() as folder:
+        file = pathlib.Path(folder) / "image"
+        for k, a, b in itertools.product(range(1, 13), (2, 3, 4), (3, 4, 5)):
+            image = reference.image(k, reference.PLAIN, a)
+            for size in (None, len(image), len(image) + 1, 15364):
+                words = [str(k), file, *([] if size is None else [str(size)]), str(a), str(b)]
+                expected = image if size is None else image.ljust(size, b"\0")
+                why = differs(["order_image", *words], example(["order_image", *words]), 0, f"{k} {len(expected)}\n")
+                if why or file.read_bytes() != expected:
+                    return why or f"precision {k}, {a} and {b} guard bits, size {size}: {file.read_bytes()[:40].hex(' ')}"
+        example(["order_image", "1", file, "3", "3"])
+        return None if file.read_bytes() == bytes.fromhex("02C0") else f"precision 1, 3 table guard bits: {file.read_bytes().hex(' ')}"
+
+
 def bench_words():
-    """Each word of a full image is the node, that of the last node too."""
+    """Each word of a full image is the node, that of the last node too, with whatever guard bits."""
     for k in range(1, 13):
-        nodes = "".join(f"{j} {reference.node(k, j)}\n" for j in range(2 ** k + 1))
-        why = differs(["bench_words", k], example(["bench_words", str(k)]), 0, nodes)
-        if why:
-            return why
+        for a, b in (None, None), *itertools.product((2, 3, 4), (3, 4, 5)):
+            nodes = "".join(f"{j} {reference.node(k, j, a or 2)}\n" for j in range(2 ** k + 1))
+            words = ["bench_words", str(k), *([str(a), str(b)] if a else [])]
+            why = differs(words, example(words), 0, nodes)
+            if why:
+                return why
     return None
 
 
@@ -331,12 +355,29 @@ def reciprocals():
 # precision 2, the file `short`, which lacks its last byte, and the empty file `empty`.
 USAGE = "usage: "
 RANGE = "refusal 1: the precision is below 1 or above 12"
+GUARD_BITS = "refusal 18: the table guard bits are not 2 to 4, or the input guard bits not 3 to 5"
 SHORT = "refusal 2: the buffer is shorter than the image"
+NO_GUARD_BITS = [("1", "3"), ("5", "3"), ("2", "2"), ("2", "6"), ("0", "0"), ("4294967295", "3"), ("2", "4294967295")]
 MISTAKES = [
-    *((name, words, b"", 2, USAGE) for name, more in (("order_image", ["3", "3"]), ("proofread", ["3"]))
+    *((name, words, b"", 2, USAGE) for name, more in (("order_image", ["3", "2", "3", "3"]), ("proofread", ["3"]))
       for words in ([], ["2"], ["2", "FOLDER/image", *more])),
     *(("reciprocals", words, b"", 2, USAGE) for words in ([], ["2"])),
-    *(("bench_words", words, b"", 2, USAGE) for words in ([], ["2", "2"])),
+    *(("bench_words", words, b"", 2, USAGE) for words in ([], ["2", "2"], ["2", "2", "3", "3"])),
+    *(("bench_words", ["2", a, "x"], b"", 2, "A is not a number") for a in ("", "two", "-1", "+2", " 2", "4294967296", b"\xff")),
+    *(("bench_words", ["2", "2", b], b"", 2, "B is not a number") for b in ("", "two", "-1", "+3", " 3", "4294967296", b"\xff")),
+    *(("order_image", ["2", "FOLDER/new", *size, a, "x"], b"", 2, "A is not a number")
+      for size in ([], ["4"]) for a in ("", "two", "-1", "+2", " 2", "4294967296", b"\xff")),
+    *(("order_image", ["2", "FOLDER/new", *size, "2", b], b"", 2, "B is not a number")
+      for size in ([], ["4"]) for b in ("", "two", "-1", "+3", " 3", "4294967296", b"\xff")),
+    ("order_image", ["2", "FOLDER/new", "four", "a", "b"], b"", 2, "SIZE is not a number below 2^64"),
+    ("order_image", ["two", "FOLDER/new", "four", "a", "b"], b"", 2, "K is not a number"),
+    ("bench_words", ["two", "a", "b"], b"", 2, "K is not a number"),
+    *(("order_image", ["2", "FOLDER/new", *size, a, b], b"", 1, GUARD_BITS)
+      for size in ([], ["0"], ["4"]) for a, b in NO_GUARD_BITS),
+    *(("bench_words", ["2", a, b], b"", 1, GUARD_BITS) for a, b in NO_GUARD_BITS),
+    *(("order_image", [k, "FOLDER/new", "5", "6"], b"", 1, RANGE) for k in ("0", "13")),
+    *(("bench_words", [k, "5", "6"], b"", 1, RANGE) for k in ("0", "13")),
+    *(("order_image", [k, "FOLDER/new", size, "3", "3"], b"", 1, SHORT) for k, size in (("1", "1"), ("2", "3"), ("12", "13823"))),
     *((name, [k, "FOLDER/new"], b"", 2, "K is not a number") for name in ("order_image", "proofread")
       for k in ("", "two", "-1", "+2", "2.0", " 2", "0x2", "4294967296", b"\xff")),
     *(("bench_words", [k], b"", 2, "K is not a number") for k in ("", "two", "-1", "+2", " 2", "4294967296", b"\xff")),
@@ -426,10 +467,11 @@ def tests():
         yield f"rust: the compiler {'refuses' if code else 'accepts'} {name}", lambda name=name: compiled(name)
     yield "rust: the archive is found, linked anew where it changed, and asked for where it is absent", archive_found
     yield "rust: order_image writes each image, and full ROMs up to some MiB", ordered
+    yield "rust: order_image writes each image with the guard bits that are ordered", ordered_with_guard_bits
     yield "rust: proofread names the first wrong word, or the first wrong byte past the image", proofread
     yield "rust: proofread reads files past the longest image whole", proofread_long
     yield "rust: reciprocals are the reference's", reciprocals
-    yield "rust: bench_words has the nodes from the words of each full image", bench_words
+    yield "rust: bench_words has the nodes from the words of each full image, with all guard bits", bench_words
     yield f"rust: {len(MISTAKES)} mistakes in calling the examples give a message and an exit status", mistakes
     yield "rust: an example whose output cannot be written says so", output_closed
     yield "rust: the commands of rust/README.md", page_commands

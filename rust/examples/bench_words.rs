@@ -1,8 +1,9 @@
-//! The words of the full image of precision K, as a test bench reads them: a line `J C` for each node, C in table units. The bench knows the
-//! number of words and their width, and nothing of a leading one to put back or of a last node without a word. The exit status is 1 where
-//! the library turns the call back, and 2 where the arguments or the output do not allow it.
+//! The words of the full image of precision K, with A table guard bits and B input guard bits, or 2 and 3 where they are not given, as a
+//! test bench reads them: a line `J C` for each node, C in table units. The bench knows the number of words and their width, and nothing of
+//! a leading one to put back or of a last node without a word. The exit status is 1 where the library turns the call back, and 2 where the
+//! arguments or the output do not allow it.
 //!
-//!     bench_words K
+//!     bench_words K [A B]
 #![forbid(unsafe_code)]
 
 use std::env;
@@ -21,11 +22,14 @@ fn word(image: &[u8], width: usize, j: usize) -> u32 {
 
 fn bench_words() -> Result<u8, Box<dyn Error>> {
     let words: Vec<_> = env::args_os().skip(1).collect();
-    let [k] = words.as_slice() else {
-        return Err("usage: bench_words K".into());
+    let (k, guard_bits) = match words.as_slice() {
+        [k] => (k, None),
+        [k, a, b] => (k, Some((a, b))),
+        _ => return Err("usage: bench_words K [A B]".into()),
     };
-    let format = Format::full(k.to_str().and_then(caller::number).ok_or("K is not a number from 1 to 12")?);
-    let mut image = [0; Format::LONGEST_FULL];
+    let k = k.to_str().and_then(caller::number).ok_or("K is not a number from 1 to 12")?;
+    let format = caller::guarded(Format::full(k), guard_bits)?;
+    let mut image = [0; Format::LONGEST];
     yildegga::build(format, &mut image)?;
 
     let width = format.word_bits().unwrap_or(0) as usize;

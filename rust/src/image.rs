@@ -7,7 +7,7 @@ use crate::units::TableUnits;
 
 /// Makes the buffer a full ROM of the format, whatever it held: the image at the front, and zeros to the end.
 ///
-/// Turned back by refusals 1 and 2.
+/// Turned back by refusals 1, 18 and 2.
 ///
 /// It computes with doubles, the one call that does. The bytes are the same in every rounding mode, and the mode stays as it is. The inexact
 /// flag may be raised: who has made that trap has to mask it for the call.
@@ -42,7 +42,7 @@ pub fn build(format: Format, image: &mut [u8]) -> Result<(), Refused> {
 /// Whether the buffer is a full ROM of the format: every word of the image is the construction's, and every filling bit and every byte past
 /// the image is zero.
 ///
-/// Turned back by refusals 1, 2, 6 and 7; the place of 6 is the lowest node whose word is wrong, and that of 7, where every word is right,
+/// Turned back by refusals 1, 18, 2, 6 and 7; the place of 6 is the lowest node whose word is wrong, and that of 7, where every word is right,
 /// the lowest byte with a set bit behind the last word: the image's last byte, where a filling bit is set, or else a byte past the image.
 ///
 /// ```
@@ -68,6 +68,12 @@ pub fn build(format: Format, image: &mut [u8]) -> Result<(), Refused> {
 /// assert_eq!((refused.number(), refused.place()), (6, 2));
 /// let refused = yildegga::check(one, &[0x81, 0x64, 0x01, 0x01]).unwrap_err();
 /// assert_eq!((refused.number(), refused.place()), (7, 2));
+///
+/// // Plain words have filling bits too where their bits do not fill the last byte: of precision 1 with three table guard bits they have ten.
+/// let one = Format::plain(1).with_guard_bits(3, 3);
+/// yildegga::check(one, &[0x02, 0xC0])?;
+/// let refused = yildegga::check(one, &[0x02, 0xC1]).unwrap_err();
+/// assert_eq!((refused.number(), refused.place()), (7, 1));
 /// # Ok::<(), yildegga::Refused>(())
 /// ```
 #[inline]
@@ -75,9 +81,9 @@ pub fn check(format: Format, image: &[u8]) -> Result<(), Refused> {
     served(yildegga_sys::check(format.numbers(), image)).map(|_| ())
 }
 
-/// The value of node `j`, from 0 to 2^k: 2^(3k+3) / (2^k + j), rounded up, in table units.
+/// The value of node `j`, from 0 to 2^k: 2^(3k+a+1) / (2^k + j), rounded up, in table units, where a are the table guard bits.
 ///
-/// Turned back by refusals 1, 2, 3 and 6. The answer depends on the word of node `j` and on no other; node 2^k has no plain word, and is
+/// Turned back by refusals 1, 18, 2, 3 and 6. The answer depends on the word of node `j` and on no other; node 2^k has no plain word, and is
 /// implied.
 ///
 /// ```
@@ -92,6 +98,10 @@ pub fn check(format: Format, image: &[u8]) -> Result<(), Refused> {
 /// assert_eq!(yildegga::node(two, &image, 3)?, TableUnits(0x4A));
 /// let refused = yildegga::node(two, &image, 4).unwrap_err();
 /// assert_eq!((refused.number(), refused.place()), (6, 4));
+///
+/// // What stands behind the last plain word is not node 2^k, also where it fills the byte of that word.
+/// let one = Format::plain(1).with_guard_bits(3, 3);
+/// assert_eq!(yildegga::node(one, &[0x02, 0xFF], 2)?, TableUnits(32));
 /// # Ok::<(), yildegga::Refused>(())
 /// ```
 #[inline]
@@ -101,7 +111,7 @@ pub fn node(format: Format, image: &[u8], j: u32) -> Result<TableUnits, Refused>
 
 /// The bytes that hold the word of node `j`, as a part of the caller's image. The word is not judged.
 ///
-/// The part is empty exactly where refusal 1 or 2 applies or node `j` has no word: where `j` is above 2^k - 1 plain, above 2^k full.
+/// The part is empty exactly where refusal 1, 18 or 2 applies or node `j` has no word: where `j` is above 2^k - 1 plain, above 2^k full.
 ///
 /// ```
 /// use yildegga::Format;
@@ -112,6 +122,7 @@ pub fn node(format: Format, image: &[u8], j: u32) -> Result<TableUnits, Refused>
 /// assert_eq!(yildegga::word_bytes(Format::plain(2), &image[..2], 1), []); // the buffer is too short
 ///
 /// assert_eq!(yildegga::word_bytes(Format::full(2), &[0x80, 0x67, 0x56, 0x4A, 0x40], 4), [0x40]);
+/// assert_eq!(yildegga::word_bytes(Format::full(2).with_guard_bits(2, 6), &[0x80, 0x67, 0x56, 0x4A, 0x40], 4), []); // refusal 18
 /// ```
 #[inline]
 pub fn word_bytes(format: Format, image: &[u8], j: u32) -> &[u8] {

@@ -18,6 +18,42 @@ pub const LEAST_PRECISION: u32 = 1;
 /// ```
 pub const GREATEST_PRECISION: u32 = 12;
 
+/// The fewest table guard bits.
+///
+/// ```
+/// use yildegga::{Format, LEAST_TABLE_GUARD_BITS};
+/// assert!(Format::plain(2).with_guard_bits(LEAST_TABLE_GUARD_BITS, 3).image_length().is_some());
+/// assert!(Format::plain(2).with_guard_bits(LEAST_TABLE_GUARD_BITS - 1, 3).image_length().is_none());
+/// ```
+pub const LEAST_TABLE_GUARD_BITS: u32 = 2;
+
+/// The most table guard bits.
+///
+/// ```
+/// use yildegga::{Format, GREATEST_TABLE_GUARD_BITS};
+/// assert!(Format::plain(2).with_guard_bits(GREATEST_TABLE_GUARD_BITS, 3).image_length().is_some());
+/// assert!(Format::plain(2).with_guard_bits(GREATEST_TABLE_GUARD_BITS + 1, 3).image_length().is_none());
+/// ```
+pub const GREATEST_TABLE_GUARD_BITS: u32 = 4;
+
+/// The fewest input guard bits.
+///
+/// ```
+/// use yildegga::{Format, LEAST_INPUT_GUARD_BITS};
+/// assert!(Format::plain(2).with_guard_bits(2, LEAST_INPUT_GUARD_BITS).image_length().is_some());
+/// assert!(Format::plain(2).with_guard_bits(2, LEAST_INPUT_GUARD_BITS - 1).image_length().is_none());
+/// ```
+pub const LEAST_INPUT_GUARD_BITS: u32 = 3;
+
+/// The most input guard bits.
+///
+/// ```
+/// use yildegga::{Format, GREATEST_INPUT_GUARD_BITS};
+/// assert!(Format::plain(2).with_guard_bits(2, GREATEST_INPUT_GUARD_BITS).image_length().is_some());
+/// assert!(Format::plain(2).with_guard_bits(2, GREATEST_INPUT_GUARD_BITS + 1).image_length().is_none());
+/// ```
+pub const GREATEST_INPUT_GUARD_BITS: u32 = 5;
+
 /// The fewest fraction bits that an operand has, at every precision.
 ///
 /// ```

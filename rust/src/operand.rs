@@ -4,10 +4,10 @@ use crate::refusal::{served, Refused};
 use crate::units::Ulps;
 
 /// The reciprocal of the operand `x`, which has `n` fraction bits, 1 to 63, and stands for x / 2^n, in ulps. It is less than one ulp
-/// from the exact one, 2^n / x, and does not depend on the form of the image. The first 2k + 3 fraction bits decide it, and those that `x`
-/// lacks count as zeros.
+/// from the exact one, 2^n / x, and does not depend on the form of the image. The first 2k + b fraction bits decide it, where b are the input
+/// guard bits, and those that `x` lacks count as zeros.
 ///
-/// Turned back by refusals 1, 2, 4, 5 and 6. The words of the two nodes about the operand are judged, and no others.
+/// Turned back by refusals 1, 18, 2, 4, 5 and 6. The words of the two nodes about the operand are judged, and no others.
 ///
 /// ```
 /// use yildegga::{Format, Ulps};
@@ -17,6 +17,10 @@ use crate::units::Ulps;
 ///
 /// // An operand of n fraction bits is at least 2^n.
 /// assert_eq!(yildegga::reciprocal(two, &image, 7, 127).unwrap_err().number(), 5);
+///
+/// // Eight fraction bits are looked at with four input guard bits, and seven with three.
+/// assert_eq!(yildegga::reciprocal(two, &image, 8, 257)?, Ulps(32));
+/// assert_eq!(yildegga::reciprocal(two.with_guard_bits(2, 4), &image, 8, 257)?, Ulps(31));
 ///
 /// // The significand of a binary32 float has 23 fraction bits. Precision 12 looks at 27, and takes it as it is.
 /// let (twelve, mut image) = (Format::full(12), vec![0; Format::LONGEST_FULL]);

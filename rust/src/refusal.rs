@@ -4,19 +4,26 @@ use std::fmt;
 
 use yildegga_sys::Answer;
 
-/// Why a call is turned back. Where several apply, the one with the lowest number is given.
+/// Why a call is turned back. Where several apply, the first in checking order is given: 1, 18, 2, 3, and so on to 7. They are listed here in
+/// this order, and are compared by their numbers.
 ///
 /// ```
 /// use yildegga::{Format, Refusal};
 /// // The precision and the fraction bits both break a limit.
 /// let refused = yildegga::reciprocal(Format::plain(13), &[], 99, 0).unwrap_err();
 /// assert_eq!(refused.refusal(), Refusal::Precision);
+///
+/// // The guard bits and the buffer: 18 is tested before 2.
+/// let refused = yildegga::check(Format::plain(12).with_guard_bits(5, 3), &[]).unwrap_err();
+/// assert_eq!(refused.refusal(), Refusal::GuardBits);
 /// ```
 #[derive(Clone, Copy, Debug, PartialEq, Eq, PartialOrd, Ord, Hash)]
 #[repr(u32)]
 pub enum Refusal {
     /// The precision is below 1 or above 12.
     Precision = 1,
+    /// The table guard bits are not 2 to 4, or the input guard bits not 3 to 5, also in a call that has no use for them.
+    GuardBits = 18,
     /// The buffer is shorter than the image of that format.
     ShortBuffer = 2,
     /// The node number is above 2^k.
@@ -32,10 +39,11 @@ pub enum Refusal {
 }
 
 impl Refusal {
-    /// The number of the refusal, 1 to 7.
+    /// The number of the refusal, 1 to 7 or 18.
     ///
     /// ```
     /// assert_eq!(yildegga::Refusal::WrongWord.number(), 6);
+    /// assert_eq!(yildegga::Refusal::GuardBits.number(), 18);
     /// ```
     #[inline]
     pub const fn number(self) -> u32 {
@@ -47,6 +55,7 @@ impl fmt::Display for Refusal {
     fn fmt(&self, f: &mut fmt::Formatter<'_>) -> fmt::Result {
         f.write_str(match self {
             Refusal::Precision => "the precision is below 1 or above 12",
+            Refusal::GuardBits => "the table guard bits are not 2 to 4, or the input guard bits not 3 to 5",
             Refusal::ShortBuffer => "the buffer is shorter than the image",
             Refusal::NodeNumber => "the node number is above 2^k",
             Refusal::FractionBits => "the fraction bits are fewer than 1 or more than 63",
@@ -87,7 +96,7 @@ impl Refused {
         self.refusal
     }
 
-    /// The number of the refusal, 1 to 7.
+    /// The number of the refusal, 1 to 7 or 18.
     ///
     /// ```
     /// use yildegga::Format;
@@ -143,13 +152,14 @@ pub(crate) fn served(answer: Answer) -> Result<u64, Refused> {
 fn refused(number: u32, place: u64) -> Refused {
     let refusal = match number {
         1 => Refusal::Precision,
+        18 => Refusal::GuardBits,
         2 => Refusal::ShortBuffer,
         3 => Refusal::NodeNumber,
         4 => Refusal::FractionBits,
         5 => Refusal::NotNormalised,
         6 => Refusal::WrongWord,
         7 => Refusal::TailNotZero,
-        _ => unreachable!("the library is proved to answer by no number but 0 to 7: {number}"),
+        _ => unreachable!("the library is proved to answer by no number but 0 to 7 and 18: {number}"),
     };
     Refused { refusal, place }
 }

@@ -1,9 +1,6 @@
 //! The two units. A count of the one is never taken for a count of the other.
 
-/// The table units in an ulp.
-pub const TABLE_UNITS_IN_ULP: u64 = 4;
-
-/// A count of table units, each 1 / 2^(2k+3): the value of a node.
+/// A count of table units, each 1 / 2^(2k+a+1), where a are the table guard bits: the value of a node.
 ///
 /// A count of table units is never accepted as a count of ulps:
 ///
@@ -19,7 +16,8 @@ pub const TABLE_UNITS_IN_ULP: u64 = 4;
 #[derive(Clone, Copy, Debug, PartialEq, Eq, PartialOrd, Ord, Hash)]
 pub struct TableUnits(pub u64);
 
-/// A count of ulps, each 1 / 2^(2k+1) or [`TABLE_UNITS_IN_ULP`] table units: a reciprocal.
+/// A count of ulps, each 1 / 2^(2k+1): a reciprocal. How many table units that is,
+/// [`Format::table_units_in_ulp`](crate::Format::table_units_in_ulp) says.
 ///
 /// ```
 /// // 2^7 / 160 is 0.8. One ulp is 1 / 2^5 at precision 2, so 25 ulps are 0.78125.

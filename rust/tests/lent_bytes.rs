@@ -3,7 +3,7 @@
 
 mod common;
 
-use common::{both, formats, image, length, said, width, words};
+use common::{both, every_format, filling, image, length, said, width, words};
 use yildegga::{build, check, node, reciprocal, word_bytes, word_range, BoundTable};
 
 const GUARD: usize = 64;
@@ -16,7 +16,7 @@ fn room(length: usize) -> Vec<u8> {
 /// What is lent becomes the image and zeros to its end, and no byte before or after it changes, at any alignment.
 #[test]
 fn build_writes_what_is_lent_and_no_more() {
-    for format in formats() {
+    for format in every_format() {
         let length = length(format);
         for (shift, more) in (0..16).zip([0, 1, 2, 7, 16, 64, 65, 1000, 70000].into_iter().cycle()) {
             let before = room(length + more);
@@ -38,7 +38,10 @@ fn build_turned_back_writes_nothing() {
     let before = room(20000);
     let mut after = before.clone();
     let no_precision = [0, 13, 1 << 31, u32::MAX].into_iter().flat_map(both);
-    for (format, number) in formats().map(|format| (format, 2)).chain(no_precision.map(|format| (format, 1))) {
+    let no_guard_bits = [(1, 3), (5, 3), (2, 2), (2, 6), (0, 0), (u32::MAX, u32::MAX)].into_iter();
+    let no_guard_bits = no_guard_bits.flat_map(|(table, input)| both(2).map(|format| format.with_guard_bits(table, input)));
+    let short = every_format().map(|format| (format, 2));
+    for (format, number) in short.chain(no_precision.map(|format| (format, 1))).chain(no_guard_bits.map(|format| (format, 18))) {
         let lent = if number == 2 { length(format) - 1 } else { 20000 };
         for lent in [0, lent / 2, lent] {
             assert_eq!(said(build(format, &mut after[GUARD..GUARD + lent])), Err((number, 0)));
@@ -50,7 +53,7 @@ fn build_turned_back_writes_nothing() {
 /// The calls that read leave the image and what is about it as they were.
 #[test]
 fn reading_writes_nothing() {
-    for format in formats() {
+    for format in every_format() {
         let k = format.precision();
         let mut before = room(length(format));
         let lent = GUARD..GUARD + length(format);
@@ -73,10 +76,10 @@ fn reading_writes_nothing() {
 /// But for the check, no call that reads depends on the tail or the filling bits: whatever stands there, the answers are the same.
 #[test]
 fn no_node_or_reciprocal_depends_on_the_tail() {
-    for format in formats() {
+    for format in every_format() {
         let k = format.precision();
         let exact = image(format);
-        let filling = 8 * exact.len() - words(format) as usize * width(format);
+        let filling = filling(format);
         for after in [0x00, 0x55, 0xFF] {
             let mut longer = exact.clone();
             *longer.last_mut().unwrap() |= after & ((1 << filling) - 1);
@@ -100,7 +103,7 @@ fn no_node_or_reciprocal_depends_on_the_tail() {
 /// The check reads the tail to its last byte and no further: what stands behind the lent bytes does not count.
 #[test]
 fn check_reads_what_is_lent_and_no_more() {
-    for format in formats() {
+    for format in every_format() {
         let length = length(format);
         for more in [0, 1, 7, 8, 63, 64, 65, 1000] {
             let mut room = room(length + more);
@@ -119,7 +122,7 @@ fn check_reads_what_is_lent_and_no_more() {
 fn empty_slices() {
     let bytes = [0x02, 0x75, 0x8A];
     let mut none: [u8; 0] = [];
-    for format in formats() {
+    for format in every_format() {
         assert_eq!(said(build(format, &mut none)), Err((2, 0)));
         assert_eq!(said(build(format, &mut Vec::new())), Err((2, 0)));
         for empty in [&none[..], &[], &bytes[1..1], &bytes[3..]] {
@@ -137,7 +140,7 @@ fn empty_slices() {
 /// The bytes of a word are the caller's own and not a copy, and every byte of the image belongs to a word.
 #[test]
 fn word_bytes_are_a_part_of_the_image() {
-    for format in formats() {
+    for format in every_format() {
         let image = image(format);
         let mut shown = 0;
         for j in 0..words(format) {

@@ -1,9 +1,9 @@
-//! Operands with fewer fraction bits than the 2k + 3 that a precision looks at (document 02, Q-1): they are padded with zeros.
+//! Operands with fewer fraction bits than the 2k + b that a format looks at (document 02, Q-1): they are padded with zeros.
 #![forbid(unsafe_code)]
 
 mod common;
 
-use common::{both, formats, image, is_near, rule, said};
+use common::{both, every_format, image, is_near, kept, rule, said};
 use yildegga::{reciprocal, BoundTable, Format, Ulps};
 
 /// What is given for an operand that keeps its limits, through a bound table too.
@@ -15,24 +15,25 @@ fn given(format: Format, image: &[u8], n: u32, x: u64) -> Ulps {
 
 /// R is the rule's, less than an ulp off, and that of the operand which the caller has padded, to as many bits as are looked at and to 63.
 fn see(format: Format, image: &[u8], n: u32, x: u64) {
-    let k = format.precision();
     let r = given(format, image, n, x);
-    assert_eq!(r, rule(k, n, x), "{format:?}, n = {n}, X = {x}");
-    assert!(is_near(k, n, x, r), "{format:?}, n = {n}, X = {x}: {r:?}");
-    for longer in [2 * k + 3, 63] {
+    assert_eq!(r, rule(format, n, x), "{format:?}, n = {n}, X = {x}");
+    assert!(is_near(format.precision(), n, x, r), "{format:?}, n = {n}, X = {x}: {r:?}");
+    for longer in [kept(format), 63] {
         assert_eq!(given(format, image, longer, x << (longer - n)), r, "{format:?}, n = {n}, X = {x}, padded to {longer}");
     }
 }
 
-/// All of them up to precision 8, and from there those next to the ends and some between, at each number of fraction bits.
+/// All of them up to precision 8, with other guard bits than two and three up to precision 5, and from there those next to the ends and some
+/// between, at each number of fraction bits.
 #[test]
 fn are_served() {
     let mut state = 1u64;
-    for format in formats() {
-        let (k, image) = (format.precision(), image(format));
-        for n in 1..=2 * k + 2 {
+    for format in every_format() {
+        let image = image(format);
+        let all = if (format.table_guard_bits(), format.input_guard_bits()) == (2, 3) { 8 } else { 5 };
+        for n in 1..kept(format) {
             let one = 1u64 << n;
-            if k <= 8 {
+            if format.precision() <= all {
                 (one..2 * one).for_each(|x| see(format, &image, n, x));
             } else {
                 [one, one + 1, 2 * one - 2, 2 * one - 1].into_iter().for_each(|x| see(format, &image, n, x));
@@ -47,9 +48,9 @@ fn are_served() {
 
 #[test]
 fn at_the_ends() {
-    for format in formats() {
+    for format in every_format() {
         let (k, image) = (format.precision(), image(format));
-        for n in 1..=2 * k + 2 {
+        for n in 1..kept(format) {
             let one = 1u64 << n;
             assert_eq!(said(reciprocal(format, &image, n, one)), Ok(Ulps(2 << (2 * k))), "{format:?}, n = {n}");
             assert!(reciprocal(format, &image, n, 2 * one - 1).is_ok_and(|r| r >= Ulps(1 << (2 * k))), "{format:?}, n = {n}");
@@ -73,6 +74,12 @@ fn with_bits_to_the_right() {
     assert_eq!((given(format, &two, 8, 256), given(format, &two, 8, 257), given(format, &two, 8, 258)), (Ulps(32), Ulps(32), Ulps(31)));
     assert_eq!(given(format, &two, 63, (1 << 63) + (1 << 56) - 1), Ulps(32));
     assert_eq!(given(format, &two, 63, (1 << 63) + (1 << 56)), Ulps(31));
+
+    // One more is looked at with four input guard bits, and two with five.
+    let (eight, nine) = (format.with_guard_bits(2, 4), format.with_guard_bits(2, 5));
+    assert_eq!((given(eight, &two, 7, 128), given(eight, &two, 8, 257), given(eight, &two, 9, 513)), (Ulps(32), Ulps(31), Ulps(32)));
+    assert_eq!((given(nine, &two, 8, 256), given(nine, &two, 9, 513), given(nine, &two, 10, 1025)), (Ulps(32), Ulps(31), Ulps(32)));
+    assert_eq!((given(nine, &two, 63, (1 << 63) + (1 << 54) - 1), given(nine, &two, 63, (1 << 63) + (1 << 54))), (Ulps(32), Ulps(31)));
 }
 
 /// The significand of an `f32`, with its leading one, is an operand of 23 fraction bits. Precision 12 looks at 27.

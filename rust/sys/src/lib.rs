@@ -21,7 +21,7 @@
 #[cfg(not(all(target_arch = "x86_64", target_os = "linux", target_pointer_width = "64")))]
 compile_error!("libyildegga.a is made for Linux on x86-64");
 
-/// The table that a call is asked for, `yildegga_format`: its precision, and its form by number.
+/// The table that a call is asked for, `yildegga_format`: its precision, its form by number, and its guard bits.
 #[repr(C)]
 #[derive(Clone, Copy, Debug, PartialEq, Eq)]
 pub struct Format {
@@ -29,6 +29,10 @@ pub struct Format {
     pub precision: u32,
     /// [`PLAIN_WORDS`], or any other number for full words.
     pub form: u32,
+    /// The table guard bits a.
+    pub table_guard_bits: u32,
+    /// The input guard bits b.
+    pub input_guard_bits: u32,
 }
 
 /// The form of plain words, by its number.
@@ -76,7 +80,7 @@ extern "C" {
     fn yildegga_reciprocal(format: Format, image: *const u8, length: usize, n: u32, x: u64) -> Answer;
 }
 
-/// The bytes of the image, 0 where there is no such precision.
+/// The bytes of the image, 0 where refusal 1 or 18 applies.
 #[inline]
 pub fn image_length(format: Format) -> usize {
     // SAFETY: it takes numbers alone.
@@ -104,7 +108,7 @@ pub fn node(format: Format, image: &[u8], j: u32) -> Answer {
     unsafe { yildegga_node(format, image.as_ptr(), image.len(), j) }
 }
 
-/// Node j of precision 8, by the list of constants.
+/// Node j of precision 8 with two table guard bits, by the list of constants.
 #[inline]
 pub fn node_8(j: u32) -> TableUnits {
     // SAFETY: it takes a number alone.

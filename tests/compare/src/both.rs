@@ -1,5 +1,5 @@
 //! One call made of the library and of the independent implementation, and the two answers compared.
-use crate::independent::{is_precision, table, Judged};
+use crate::independent::{has_table, table, Judged};
 use crate::library::{self, Format, Lent};
 use std::cell::Cell;
 use std::fmt::{self, Debug, Display, Formatter};
@@ -120,7 +120,7 @@ impl<'a> Both<'a> {
 
 /// A buffer's content in words: by its difference from the image where that is a few bits, else byte by byte.
 pub fn told(format: Format, bytes: &[u8]) -> String {
-    if is_precision(format.precision) && bytes.len() >= table(format).image.len() {
+    if has_table(format) && bytes.len() >= table(format).image.len() {
         let mut bits = table(format).bits.clone();
         bits.resize(8 * table(format).image.len(), false);
         let changed: Vec<usize> = (0..bits.len()).filter(|bit| (bytes[bit / 8] >> (7 - bit % 8) & 1 == 1) != bits[*bit]).collect();

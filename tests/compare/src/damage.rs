@@ -1,6 +1,9 @@
 //! Images with wrong words: one bit changed, several, and buffers of any content.
 use crate::both::{told, Both};
-use crate::independent::{both_forms, bytes_of, formats, power, precisions, table, width, Judged, MOST_FRACTION_BITS};
+use crate::independent::{
+    both_forms, bytes_of, kept, numerator, power, precisions, table, width, words, Judged, INPUT_GUARD_BITS, MOST_FRACTION_BITS,
+    TABLE_GUARD_BITS,
+};
 use crate::lent::{Buffer, Guards};
 use crate::library::Format;
 use crate::random::Random;
@@ -59,22 +62,23 @@ impl Damaged {
             if j >= last {
                 continue;
             }
-            let (left, steps) = ((u64::from(last) + u64::from(j)) << (k + 3), 1u64 << (k + 3));
-            let most = u64::from(MOST_FRACTION_BITS - (2 * k + 3));
-            let right = self.random.below(most + 1) as u32;
-            let (n, ones) = (2 * k + 3 + right, (1 << right) - 1);
+            let kept = kept(self.format);
+            let steps = 1u64 << (kept - k);
+            let left = (u64::from(last) + u64::from(j)) * steps;
+            let right = self.random.below(u64::from(MOST_FRACTION_BITS - kept) + 1) as u32;
+            let (n, ones) = (kept + right, (1 << right) - 1);
             let within = 1 + self.random.below(steps - 2);
             // Each end of the piece alone and with as little or as much to its right as there can be, and a place within.
-            both.reciprocal(2 * k + 3, left)?;
+            both.reciprocal(kept, left)?;
             both.reciprocal(n, left << right)?;
             both.reciprocal(n, ((left + within) << right) + self.random.below(ones + 1))?;
-            both.reciprocal(2 * k + 3, left + steps - 1)?;
+            both.reciprocal(kept, left + steps - 1)?;
             both.reciprocal(n, ((left + steps - 1) << right) + ones)?;
             // A short operand in the piece, from the fewest fraction bits with which one stands at node j; the same with bits to its right.
             let fewest = (k - k.min(j.trailing_zeros())).max(1);
-            let n = fewest + self.random.below(u64::from(2 * k + 3 - fewest)) as u32;
+            let n = fewest + self.random.below(u64::from(kept - fewest)) as u32;
             let x = (u64::from(last + j) << n >> k) + self.random.below(1 << n.saturating_sub(k));
-            let (longer_n, longer_x) = longer(&mut self.random, k, n, x);
+            let (longer_n, longer_x) = longer(&mut self.random, self.format, n, x);
             both.alike(n, x, longer_n, longer_x)?;
         }
         self.cases += both.cases;
@@ -91,9 +95,9 @@ struct Bits {
 }
 
 /// One bit changed: in each format the `step`-th bits of the image, filling bits too.
-pub fn one_bit(guards: Guards, step: impl Fn(Format) -> usize) -> Counted {
+pub fn one_bit(guards: Guards, formats: &[Format], step: impl Fn(Format) -> usize) -> Counted {
     let mut works = Vec::new();
-    for format in formats().rev() {
+    for &format in formats.iter().rev() {
         let bits = 8 * table(format).image.len();
         works.extend((0..bits).step_by(1024).map(|from| Bits { format, from, to: bits.min(from + 1024), step: step(format) }));
     }
@@ -109,9 +113,9 @@ pub fn one_bit(guards: Guards, step: impl Fn(Format) -> usize) -> Counted {
 }
 
 /// Two bits changed: every two of the shortest images, then as many random ones, of which some lie in one word or in neighbours.
-pub fn two_bits(guards: Guards, every_up_to: u32, random: impl Fn(Format) -> usize) -> Counted {
+pub fn two_bits(guards: Guards, formats: &[Format], every_up_to: u32, random: impl Fn(Format) -> usize) -> Counted {
     let mut works = Vec::new();
-    for format in formats().rev() {
+    for &format in formats.iter().rev() {
         if format.precision <= every_up_to {
             works.push((format, 0, 0));
         } else {
@@ -146,14 +150,15 @@ pub fn two_bits(guards: Guards, every_up_to: u32, random: impl Fn(Format) -> usi
 }
 
 /// Contents that a wrong construction leaves, and random ones.
-pub fn any_content(guards: Guards, random: impl Fn(Format) -> usize + Sync) -> Counted {
-    let works: Vec<Format> = formats().rev().collect();
+pub fn any_content(guards: Guards, formats: &[Format], random: impl Fn(Format) -> usize + Sync) -> Counted {
+    let works: Vec<Format> = formats.iter().rev().copied().collect();
     share(&works, |&format| {
         let k = format.precision;
         let image = &table(format).image;
         let length = image.len();
         let mut damaged = Damaged::new(guards, format, 31);
-        let beyond = |j: usize, c: u64| u128::from(c) * (power(k) + j as u128) - power(3 * k + 3); // what rounding up adds to c × i
+        let above = 2 * k + format.table_guard_bits; // the place of the leading one of all nodes but the first
+        let beyond = |j: usize, c: u64| u128::from(c) * (power(k) + j as u128) - numerator(format); // what rounding up adds to c × i
         let mut contents: Vec<Vec<u8>> = vec![
             vec![0; length],
             vec![0xFF; length],
@@ -164,12 +169,15 @@ pub fn any_content(guards: Guards, random: impl Fn(Format) -> usize + Sync) -> C
             packed(format, |j, c| c - u64::from(beyond(j, c) > 0)), // rounded down
             packed(format, |j, c| c - u64::from(2 * beyond(j, c) > power(k) + j as u128)), // rounded to nearest
             packed(format, |_, c| c + 1),
-            packed(format, |j, c| if j == 0 { 1 << (2 * k + 1) } else { c }),
-            packed(format, |_, c| c / 2),                  // plain, with the leading one that is left out
-            packed(format, |_, c| c % (1 << (2 * k + 2))), // full, with the leading one left out
+            packed(format, |j, c| if j == 0 { 1 << (above - 1) } else { c }),
+            packed(format, |_, c| c / 2),            // plain, with the leading one that is left out
+            packed(format, |_, c| c % (1 << above)), // full, with the leading one left out
             packed(format, |j, c| if j == 1 << k { 0 } else { c }), // full, with the last node left out
+            packed(format, |_, c| (c + 1) / 2),      // with a table guard bit less, right but for its rounding
+            packed(format, |_, c| 2 * c),            // with one more
         ];
-        let others = precisions().map(|precision| Format { precision, ..format }).chain([Format { precision: k, form: 1 - format.form }]);
+        let others = precisions().map(|precision| Format { precision, ..format }).chain([Format { form: 1 - format.form, ..format }]);
+        let others = others.chain(TABLE_GUARD_BITS.map(|table_guard_bits| Format { table_guard_bits, ..format }));
         contents.extend(others.map(|other| table(other).image.iter().cycle().take(length).copied().collect()));
         for _ in 0..random(format) {
             // Right up to some byte, and random from there on up to another.
@@ -203,7 +211,7 @@ fn packed(format: Format, value: impl Fn(usize, u64) -> u64) -> Vec<u8> {
 /// Every content of the images of one byte and of three, of which one is full: the check, and of the rest one node and one operand in turn; of
 /// the full image every node, and an operand now and then.
 pub fn every_content(guards: Guards, step: usize) -> Counted {
-    let [one, full] = both_forms(1);
+    let [one, full] = both_forms(Format::plain(1));
     let mut works: Vec<(Format, u32, u32)> = vec![(one, 0, 256)];
     for format in [Format::plain(2), full] {
         works.extend((0..1 << 24).step_by(1 << 16).map(|from| (format, from, from + (1 << 16))));
@@ -227,13 +235,54 @@ pub fn every_content(guards: Guards, step: usize) -> Counted {
             }
             if format != full || content % 7 == 0 {
                 // It is drawn by the content, and has from one fraction bit to as many as are looked at.
-                let kept = 2 * format.precision + 3;
+                let kept = kept(format);
                 let lacking = content / 512 % kept;
                 both.reciprocal(kept - lacking, ((1 << kept) + u64::from(content / 4 % (1 << kept))) >> lacking)?;
             }
             damaged.cases += both.cases;
         }
         damaged.buffer.as_kept(|| format!("check, node and reciprocal, {format}, on the contents {from:06x} to {:06x}", to - 1))?;
+        Ok(damaged.cases)
+    })
+}
+
+/// Every content of the plain images of two bytes, which have filling bits: each call at every node, word and piece. Of the other images of
+/// precisions 1 and 2 with more than two table guard bits, which have three to seven bytes, some contents, of which most words are right.
+pub fn other_contents(guards: Guards, step: usize, some: usize) -> Counted {
+    let mut works: Vec<(Format, usize)> = Vec::new();
+    for (precision, table_guard_bits) in [(1, 3), (1, 4), (2, 3), (2, 4)] {
+        for input in INPUT_GUARD_BITS {
+            let [plain, full] = both_forms(Format::plain(precision).with_guard_bits(table_guard_bits, input));
+            works.extend((0..16).flat_map(|part| [(plain, part), (full, part)]));
+        }
+    }
+    share(&works, |&(format, part)| {
+        let length = table(format).image.len();
+        let mut damaged = Damaged::new(guards, format, 16 * length as u64 + part as u64);
+        if length == 2 {
+            for content in (part..1 << 16).step_by(16 * step) {
+                damaged.put(&(content as u16).to_be_bytes());
+                damaged.compare(&[], true)?;
+            }
+            return Ok(damaged.cases);
+        }
+        for _ in 0..some {
+            let mut bits = table(format).bits.clone();
+            let filling = 8 * length - bits.len();
+            for j in 0..words(format) as usize {
+                let word = j * width(format)..(j + 1) * width(format);
+                match damaged.random.below(8) {
+                    0 => word.for_each(|bit| bits[bit] = damaged.random.below(2) == 1),
+                    1 => bits[word.start + damaged.random.below(width(format) as u64) as usize] ^= true,
+                    2 => bits[word.end - 1] ^= true,
+                    _ => {}
+                }
+            }
+            let dirty = damaged.random.below(2) == 1;
+            bits.extend((0..filling).map(|_| dirty && damaged.random.below(2) == 1));
+            damaged.put(&bytes_of(&bits));
+            damaged.compare(&[], true)?;
+        }
         Ok(damaged.cases)
     })
 }

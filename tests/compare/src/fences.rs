@@ -2,7 +2,7 @@
 //! calls but the builder's are made where nothing can be written either. For the builder and the check the pages stand behind the buffer,
 //! for the others also behind the image, where the buffer is said to be longer.
 use crate::both::{called, Both};
-use crate::independent::{formats, length, power, rom, table, Judged, GREATEST, MOST_FRACTION_BITS};
+use crate::independent::{length, power, rom, table, Judged, GREATEST, MOST_FRACTION_BITS};
 use crate::library::{Format, Lent};
 use crate::work::{share, Counted};
 use std::ffi::c_char;
@@ -125,13 +125,15 @@ pub fn watch() {
 /// The calls that look at nothing behind the words: each `step`-th node and those about the last one, its word, and operands at both ends of
 /// its piece, short ones too.
 pub fn calls(both: &mut Both, step: usize) -> Result<(), String> {
-    let k = both.judged.format.precision;
-    let last = power(k.min(12)) as u32;
+    let Format { precision, input_guard_bits, .. } = both.judged.format;
+    let k = precision.min(12);
+    let kept = 2 * k + input_guard_bits;
+    let last = power(k) as u32;
     for j in (0..last).step_by(step).chain(last - 1..last + 2).chain([u32::MAX]) {
         both.node(j)?;
         both.word_bytes(j)?;
-        for n in [k.min(12) + 1, 2 * k.min(12) + 2, 2 * k.min(12) + 3, MOST_FRACTION_BITS] {
-            let piece = 1u64 << (n - k.min(12));
+        for n in [k + 1, kept - 1, kept, MOST_FRACTION_BITS] {
+            let piece = 1u64 << (n - k);
             let node = u128::from(last + j.min(last)) * u128::from(piece);
             for x in [node, node + u128::from(piece) - 1] {
                 both.reciprocal(n, x as u64)?;
@@ -142,8 +144,8 @@ pub fn calls(both: &mut Both, step: usize) -> Result<(), String> {
 }
 
 /// Images in buffers of their own length, in longer and in shorter ones, and buffers that are said to be longer than they are.
-pub fn fenced(step: impl Fn(u32) -> usize + Sync) -> Counted {
-    let works: Vec<Format> = formats().rev().collect();
+pub fn fenced(formats: &[Format], step: impl Fn(u32) -> usize + Sync) -> Counted {
+    let works: Vec<Format> = formats.iter().rev().copied().collect();
     share(&works, |&format| {
         let (fenced, step) = (Fenced::new(), step(format.precision));
         let mut cases = said_longer(&fenced, format, step)?;
@@ -216,14 +218,16 @@ fn tails(fenced: &Fenced, format: Format, side: Side, step: usize) -> Counted {
     Ok(cases)
 }
 
-/// Buffers that are too short, and those of numbers that are no precision. Here the builder may not write.
+/// Buffers that are too short, and those of numbers that are no precision or no guard bits. Here the builder may not write.
 fn turned_back(fenced: &Fenced, format: Format, side: Side, step: usize) -> Counted {
     let image = &table(format).image;
     let mut cases = 0;
     let asked = [0, 1, 2, 7, 8, image.len() / 2, image.len().saturating_sub(8), image.len().saturating_sub(2), image.len() - 1];
     for length in asked.into_iter().filter(|length| *length < image.len()) {
-        for precision in [format.precision, 12, 0, 13, u32::MAX] {
-            let judged = Judged::new(Format { precision, ..format }, &image[..length], length);
+        let none = [format.with_guard_bits(5, format.input_guard_bits), format.with_guard_bits(format.table_guard_bits, 6)];
+        let asked = [format.precision, 12, 0, 13, u32::MAX].map(|precision| Format { precision, ..format });
+        for asked in asked.into_iter().chain(none) {
+            let judged = Judged::new(asked, &image[..length], length);
             let mut both = Both::new(fenced.put(side, &image[..length]), &judged, &image[..length]);
             both.check()?;
             calls(&mut both, 509 * step)?;

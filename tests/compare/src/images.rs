@@ -1,6 +1,6 @@
 //! Right images: built, checked, and every node and word read. The nodes that need no image.
 use crate::both::Both;
-use crate::independent::{constant_node, formats, is_precision, length, power, rom, table, Judged, FORMS, GREATEST, LEAST};
+use crate::independent::{constant_node, has_table, length, power, rom, table, Judged, FORMS, GREATEST, LEAST, TABLE_GUARD_BITS};
 use crate::lent::{Buffer, Guards};
 use crate::library::{self, Format, TableUnits};
 use crate::random::Random;
@@ -8,12 +8,13 @@ use crate::work::{share, Counted};
 
 /// What stands in a buffer before an image is built there, by its name.
 fn contents(format: Format, length: usize) -> Vec<(&'static str, Vec<u8>)> {
-    let Format { precision: k, form } = format;
+    let Format { precision: k, form, table_guard_bits: a, .. } = format;
     let image = &table(format).image;
     let rest = vec![0x5A; length - image.len()];
     let complement: Vec<u8> = image.iter().map(|byte| !byte).collect();
-    let other = &table(Format { precision: if k == GREATEST { LEAST } else { k + 1 }, form }).image;
-    let other_form = &table(Format { precision: k, form: 1 - form }).image;
+    let other = &table(Format { precision: if k == GREATEST { LEAST } else { k + 1 }, ..format }).image;
+    let other_form = &table(Format { form: 1 - form, ..format }).image;
+    let other_table = &table(Format { table_guard_bits: if a == *TABLE_GUARD_BITS.end() { 2 } else { a + 1 }, ..format }).image;
     vec![
         ("zeros", vec![0; length]),
         ("ones", vec![0xFF; length]),
@@ -23,12 +24,13 @@ fn contents(format: Format, length: usize) -> Vec<(&'static str, Vec<u8>)> {
         ("its complement", [&complement[..], &rest].concat()),
         ("another image", other.iter().cycle().take(length).copied().collect()),
         ("the image in the other form", other_form.iter().cycle().take(length).copied().collect()),
+        ("the image with other table guard bits", other_table.iter().cycle().take(length).copied().collect()),
     ]
 }
 
-/// Every image, built in buffers of its own length and longer ones, with zeros to their ends, over what stood there.
-pub fn built(guards: Guards, shifts: &[usize]) -> Counted {
-    let works: Vec<(Format, usize)> = formats().flat_map(|format| shifts.iter().map(move |shift| (format, *shift))).collect();
+/// Images built in buffers of their own length and longer ones, with zeros to their ends, over what stood there.
+pub fn built(guards: Guards, formats: &[Format], shifts: &[usize]) -> Counted {
+    let works: Vec<(Format, usize)> = formats.iter().flat_map(|format| shifts.iter().map(move |shift| (*format, *shift))).collect();
     share(&works, |&(format, shift)| {
         let image = &table(format).image;
         let mut cases = 0;
@@ -47,10 +49,9 @@ pub fn built(guards: Guards, shifts: &[usize]) -> Counted {
     })
 }
 
-/// Every image checked, every node and the two after the last one read, every word shown, at each shift and with bytes after it, zeros and
-/// others.
-pub fn read(guards: Guards, shifts: &[usize]) -> Counted {
-    let works: Vec<(Format, usize)> = formats().flat_map(|format| shifts.iter().map(move |shift| (format, *shift))).collect();
+/// Images checked, every node and the two after the last one read, every word shown, at each shift and with bytes after it, zeros and others.
+pub fn read(guards: Guards, formats: &[Format], shifts: &[usize]) -> Counted {
+    let works: Vec<(Format, usize)> = formats.iter().flat_map(|format| shifts.iter().map(move |shift| (*format, *shift))).collect();
     share(&works, |&(format, shift)| {
         let image = &table(format).image;
         let mut cases = 0;
@@ -73,19 +74,34 @@ pub fn read(guards: Guards, shifts: &[usize]) -> Counted {
     })
 }
 
-/// The image length of each format, and where the precision is none.
+/// Compares the image length of a format, and 0 where it has no table.
+pub fn same_length(format: Format) -> Counted {
+    let expected = if has_table(format) { length(format) } else { 0 };
+    let found = library::image_length(format);
+    if found != expected {
+        return Err(format!("image length, {format}: the library gives {found}, expected is {expected}"));
+    }
+    Ok(1)
+}
+
+/// The image length of each precision, and of numbers that are none.
 pub fn lengths() -> Counted {
     let others = (0..32).flat_map(|at| [1u32 << at, (1 << at) - 1, (1 << at) + 1, u32::MAX - (1 << at), (1 << at) | 5]);
+    let precisions = (0..70).chain(others).chain([u32::MAX]);
+    precisions.flat_map(|k| FORMS.map(|form| same_length(Format { form, ..Format::plain(k) }))).sum()
+}
+
+/// The same with table and input guard bits that are served, those beside them, and others, which may be the same in fewer bits.
+pub fn other_lengths() -> Counted {
+    let numbers = || (0..10).chain((4..32).flat_map(|at| [1 << at, (1 << at) + 2, (1 << at) + 3, u32::MAX - (1 << at)])).chain([u32::MAX]);
     let mut cases = 0;
-    for k in (0..70).chain(others).chain([u32::MAX]) {
+    for k in (0..=14).chain([31, 32, 256, 257, 268, 65538, 1 << 31, (1 << 31) + 2, u32::MAX]) {
         for form in FORMS {
-            let format = Format { precision: k, form };
-            let expected = if is_precision(k) { length(format) } else { 0 };
-            let found = library::image_length(format);
-            if found != expected {
-                return Err(format!("image length, {format}: the library gives {found}, expected is {expected}"));
+            for a in numbers() {
+                for b in numbers() {
+                    cases += same_length(Format { precision: k, form, table_guard_bits: a, input_guard_bits: b })?;
+                }
             }
-            cases += 1;
         }
     }
     Ok(cases)

@@ -1,27 +1,36 @@
 //! The library, as the C header declares it; declared here once more, so that no code of the Rust crate stands between.
 use std::fmt::{self, Display, Formatter};
 
-/// The table that a call is asked for: its precision, and its form, 0 for plain words and any other number for full ones.
+/// The table that a call is asked for: its precision, its form, 0 for plain words and any other number for full ones, and its guard bits.
 #[repr(C)]
 #[derive(Clone, Copy, Debug, PartialEq, Eq)]
 pub struct Format {
     pub precision: u32,
     pub form: u32,
+    pub table_guard_bits: u32,
+    pub input_guard_bits: u32,
 }
 
 impl Format {
+    /// Plain words with two and three guard bits.
     pub const fn plain(precision: u32) -> Format {
-        Format { precision, form: 0 }
+        Format { precision, form: 0, table_guard_bits: 2, input_guard_bits: 3 }
     }
 
+    /// Full words with the same.
     pub const fn full(precision: u32) -> Format {
-        Format { precision, form: 1 }
+        Format { form: 1, ..Format::plain(precision) }
+    }
+
+    pub const fn with_guard_bits(self, table_guard_bits: u32, input_guard_bits: u32) -> Format {
+        Format { table_guard_bits, input_guard_bits, ..self }
     }
 }
 
 impl Display for Format {
     fn fmt(&self, out: &mut Formatter) -> fmt::Result {
-        write!(out, "k {}, form {}", self.precision, self.form)
+        let Format { precision, form, table_guard_bits, input_guard_bits } = self;
+        write!(out, "k {precision}, form {form}, a {table_guard_bits}, b {input_guard_bits}")
     }
 }
 
@@ -110,8 +119,9 @@ pub fn bound_reciprocal(format: Format, image: Lent, n: u32, x: u64) -> Answer {
     unsafe { declared::yildegga_bound_reciprocal(format, image.start, image.length, n, x) }
 }
 
-/// The same calls with whole registers: a format is the precision in the lower half of one and the form in its upper half, and of a register
-/// for a number of 32 bits what stands in the upper half is no part of the number.
+/// The same calls with whole registers: a format is two of them, the precision in the lower half of the first and the form in its upper half,
+/// table and input guard bits in the halves of the second. Of a register for one number of 32 bits what stands in the upper half is no part of
+/// the number.
 #[allow(clashing_extern_declarations)]
 pub mod wide {
     use super::{Answer, Lent, Part, TableUnits};
@@ -120,51 +130,55 @@ pub mod wide {
         use super::{Answer, Part, TableUnits};
 
         extern "C" {
-            pub fn yildegga_image_length(format: u64) -> usize;
-            pub fn yildegga_build(format: u64, image: *mut u8, length: usize) -> Answer;
-            pub fn yildegga_check(format: u64, image: *const u8, length: usize) -> Answer;
-            pub fn yildegga_node(format: u64, image: *const u8, length: usize, j: u64) -> Answer;
+            pub fn yildegga_image_length(table: u64, guard_bits: u64) -> usize;
+            pub fn yildegga_build(table: u64, guard_bits: u64, image: *mut u8, length: usize) -> Answer;
+            pub fn yildegga_check(table: u64, guard_bits: u64, image: *const u8, length: usize) -> Answer;
+            pub fn yildegga_node(table: u64, guard_bits: u64, image: *const u8, length: usize, j: u64) -> Answer;
             pub fn yildegga_node_8(j: u64) -> TableUnits;
-            pub fn yildegga_word_bytes(format: u64, image: *const u8, length: usize, j: u64) -> Part;
-            pub fn yildegga_reciprocal(format: u64, image: *const u8, length: usize, n: u64, x: u64) -> Answer;
-            pub fn yildegga_bound_node(format: u64, image: *const u8, length: usize, j: u64) -> Answer;
-            pub fn yildegga_bound_reciprocal(format: u64, image: *const u8, length: usize, n: u64, x: u64) -> Answer;
+            pub fn yildegga_word_bytes(table: u64, guard_bits: u64, image: *const u8, length: usize, j: u64) -> Part;
+            pub fn yildegga_reciprocal(table: u64, guard_bits: u64, image: *const u8, length: usize, n: u64, x: u64) -> Answer;
+            pub fn yildegga_bound_node(table: u64, guard_bits: u64, image: *const u8, length: usize, j: u64) -> Answer;
+            pub fn yildegga_bound_reciprocal(table: u64, guard_bits: u64, image: *const u8, length: usize, n: u64, x: u64) -> Answer;
         }
     }
 
-    pub fn image_length(format: u64) -> usize {
-        unsafe { declared::yildegga_image_length(format) }
+    /// The two registers of a format.
+    #[derive(Clone, Copy)]
+    pub struct Format(pub u64, pub u64);
+
+    pub fn image_length(format: Format) -> usize {
+        unsafe { declared::yildegga_image_length(format.0, format.1) }
     }
 
-    pub fn build(format: u64, image: Lent) -> Answer {
-        unsafe { declared::yildegga_build(format, image.start, image.length) }
+    pub fn build(format: Format, image: Lent) -> Answer {
+        unsafe { declared::yildegga_build(format.0, format.1, image.start, image.length) }
     }
 
-    pub fn check(format: u64, image: Lent) -> Answer {
-        unsafe { declared::yildegga_check(format, image.start, image.length) }
+    pub fn check(format: Format, image: Lent) -> Answer {
+        unsafe { declared::yildegga_check(format.0, format.1, image.start, image.length) }
     }
 
-    pub fn node(format: u64, image: Lent, j: u64) -> Answer {
-        unsafe { declared::yildegga_node(format, image.start, image.length, j) }
+    pub fn node(format: Format, image: Lent, j: u64) -> Answer {
+        unsafe { declared::yildegga_node(format.0, format.1, image.start, image.length, j) }
     }
 
     pub fn node_8(j: u64) -> TableUnits {
         unsafe { declared::yildegga_node_8(j) }
     }
 
-    pub fn word_bytes(format: u64, image: Lent, j: u64) -> Part {
-        unsafe { declared::yildegga_word_bytes(format, image.start, image.length, j) }
+    pub fn word_bytes(format: Format, image: Lent, j: u64) -> Part {
+        unsafe { declared::yildegga_word_bytes(format.0, format.1, image.start, image.length, j) }
     }
 
-    pub fn reciprocal(format: u64, image: Lent, n: u64, x: u64) -> Answer {
-        unsafe { declared::yildegga_reciprocal(format, image.start, image.length, n, x) }
+    pub fn reciprocal(format: Format, image: Lent, n: u64, x: u64) -> Answer {
+        unsafe { declared::yildegga_reciprocal(format.0, format.1, image.start, image.length, n, x) }
     }
 
-    pub fn bound_node(format: u64, image: Lent, j: u64) -> Answer {
-        unsafe { declared::yildegga_bound_node(format, image.start, image.length, j) }
+    pub fn bound_node(format: Format, image: Lent, j: u64) -> Answer {
+        unsafe { declared::yildegga_bound_node(format.0, format.1, image.start, image.length, j) }
     }
 
-    pub fn bound_reciprocal(format: u64, image: Lent, n: u64, x: u64) -> Answer {
-        unsafe { declared::yildegga_bound_reciprocal(format, image.start, image.length, n, x) }
+    pub fn bound_reciprocal(format: Format, image: Lent, n: u64, x: u64) -> Answer {
+        unsafe { declared::yildegga_bound_reciprocal(format.0, format.1, image.start, image.length, n, x) }
     }
 }

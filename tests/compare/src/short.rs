@@ -1,27 +1,39 @@
-//! Short operands, with fewer than the 2k + 3 fraction bits that the table looks at: every one of them, and what may stand to their right.
+//! Short operands, with fewer than the 2k + b fraction bits that the table looks at: every one of them, and what may stand to their right.
 //! The limits of an operand.
-use crate::independent::{both_forms, interpolated, precisions, table, FORMS, LEAST_FRACTION_BITS, MOST_FRACTION_BITS};
+use crate::independent::{both_forms, interpolated, is_usual, kept, precisions, table, FORMS, LEAST_FRACTION_BITS, MOST_FRACTION_BITS};
 use crate::lent::{Buffer, Guards};
 use crate::library::{self, Answer, Format};
-use crate::operands::{every_operand, served, Pieces};
+use crate::operands::{every_operand, others, served, Pieces};
 use crate::random::Random;
 use crate::work::{share, Counted};
 
-/// The precisions up to one, each with the numbers of fraction bits of its short operands.
-fn shorts(up_to: u32) -> impl Iterator<Item = (u32, u32)> {
-    precisions().rev().filter(move |k| *k <= up_to).flat_map(|k| (LEAST_FRACTION_BITS..2 * k + 3).rev().map(move |n| (k, n)))
+/// Plain formats, each with the numbers of fraction bits of its short operands.
+fn shorts(plain: Vec<Format>) -> impl Iterator<Item = (Format, u32)> {
+    plain.into_iter().flat_map(|plain| (LEAST_FRACTION_BITS..kept(plain)).rev().map(move |n| (plain, n)))
+}
+
+/// The precisions up to one in the plain form.
+fn plain_up_to(greatest: u32) -> Vec<Format> {
+    precisions().rev().filter(move |k| *k <= greatest).map(Format::plain).collect()
 }
 
 /// Every short operand at the precisions up to one, in the plain form; in the full one, as R does not depend on the form, all where they are few
 /// and a part of many.
 pub fn every_one(guards: Guards, up_to: u32) -> Counted {
-    let works: Vec<Pieces> = shorts(up_to).flat_map(|(k, n)| Pieces::all(k, n, 16)).collect();
+    let works: Vec<Pieces> = shorts(plain_up_to(up_to)).flat_map(|(plain, n)| Pieces::all(plain, n, 16)).collect();
     share(&works, |pieces| every_operand(guards, pieces))
 }
 
+/// With the other guard bits, in both forms, every short operand at the precisions up to 8 and every one of up to 16 fraction bits, and of longer
+/// ones some pieces.
+pub fn other_ones() -> Counted {
+    let works: Vec<Pieces> = shorts(others()).flat_map(|(plain, n)| Pieces::some(plain, n, 4, 1 << 14)).collect();
+    share(&works, |pieces| every_operand(Guards::Bytes, pieces))
+}
+
 /// How many of an operand's fraction bits stand behind those that the table looks at.
-fn behind(k: u32, n: u32) -> u32 {
-    n.saturating_sub(2 * k + 3)
+fn behind(format: Format, n: u32) -> u32 {
+    n.saturating_sub(kept(format))
 }
 
 /// A number of fraction bits above n.
@@ -29,25 +41,35 @@ fn drawn_length(random: &mut Random, n: u32) -> u32 {
     n + 1 + random.below(u64::from(MOST_FRACTION_BITS - n)) as u32
 }
 
-/// A short operand with a drawn number of bits to its right that change nothing: zeros up to 2k + 3 fraction bits, and drawn ones behind them.
-pub fn longer(random: &mut Random, k: u32, n: u32, x: u64) -> (u32, u64) {
+/// A short operand with a drawn number of bits to its right that change nothing: zeros up to 2k + b fraction bits, and drawn ones behind them.
+pub fn longer(random: &mut Random, format: Format, n: u32, x: u64) -> (u32, u64) {
     let length = drawn_length(random, n);
-    (length, x * (1 << (length - n)) + random.below(1 << behind(k, length)))
+    (length, x * (1 << (length - n)) + random.below(1 << behind(format, length)))
 }
 
 /// The short operands in one format with one number of fraction bits, at most. R does not depend on the form, and of the full one fewer are
-/// taken.
+/// taken; so they are with the other guard bits than two and three.
 fn many(format: Format) -> u64 {
-    match format.form {
-        0 => 1 << 16,
-        _ => 1 << 13,
+    match (is_usual(format), format.form) {
+        (true, 0) => 1 << 16,
+        (true, _) => 1 << 13,
+        (false, _) => 1 << 10,
     }
 }
 
 /// Short operands at the precisions up to one, in both forms, with zeros to their right, up to 2k + 3 fraction bits and beyond, and with other
 /// bits behind those: the answer is that of the operand alone. Where n is small, each operand has each number of bits to its right.
 pub fn to_the_right(guards: Guards, up_to: u32) -> Counted {
-    let works: Vec<(Format, u32)> = shorts(up_to).flat_map(|(k, n)| both_forms(k).map(|format| (format, n))).collect();
+    beyond(guards, plain_up_to(up_to))
+}
+
+/// The same with the other guard bits, up to 2k + b fraction bits and beyond.
+pub fn others_to_the_right() -> Counted {
+    beyond(Guards::Bytes, others())
+}
+
+fn beyond(guards: Guards, plain: Vec<Format>) -> Counted {
+    let works: Vec<(Format, u32)> = shorts(plain).flat_map(|(plain, n)| both_forms(plain).map(|format| (format, n))).collect();
     share(&works, |&(format, n)| {
         let k = format.precision;
         let mut random = Random::new(u64::from(64 * k + n));
@@ -66,10 +88,10 @@ pub fn to_the_right(guards: Guards, up_to: u32) -> Counted {
             if alone.number != 0 {
                 return Err(format!("reciprocal, {format}, its image, n {n}, x {x}: the library gives {alone:?}, expected is number 0"));
             }
-            let some = [2 * k + 3, MOST_FRACTION_BITS, drawn_length(&mut random, n)];
+            let some = [kept(format), MOST_FRACTION_BITS, drawn_length(&mut random, n)];
             let lengths = if n <= 9 { (n + 1..=MOST_FRACTION_BITS).collect() } else { some.to_vec() };
             for length in lengths {
-                let rights = 1u64 << behind(k, length);
+                let rights = 1u64 << behind(format, length);
                 let others = [0, rights - 1, random.below(rights)];
                 for bits in &others[..if rights == 1 { 1 } else { 3 }] {
                     let longer = x * (1 << (length - n)) + bits;
@@ -96,8 +118,8 @@ fn refused(number: u32, place: u64) -> Answer {
 
 /// The limits of n and X in each format, on its image and on one of which each word is wrong. Refusals 4 and 5 are the same in every
 /// format and come before 6.
-pub fn limits(guards: Guards) -> Counted {
-    let formats = precisions().flat_map(|precision| FORMS.map(|form| Format { precision, form }));
+pub fn limits(guards: Guards, plain: Vec<Format>) -> Counted {
+    let formats = plain.into_iter().flat_map(|plain| FORMS.map(|form| Format { form, ..plain }));
     let works: Vec<(Format, bool)> = formats.flat_map(|format| [(format, true), (format, false)]).collect();
     share(&works, |&(format, right)| {
         let k = format.precision;
@@ -133,7 +155,7 @@ pub fn limits(guards: Guards) -> Counted {
                 }
             }
             let last = (1 << k) - (1 << k.saturating_sub(n)); // the last node at which an operand stands
-            let lowest = if 2 * k + 3 <= n { 1 << (2 * k) } else { interpolated(k, n, greatest) };
+            let lowest = if kept(format) <= n { 1 << (2 * k) } else { interpolated(format, n, greatest) };
             compare(n, least, if right { served(1 << (2 * k + 1)) } else { refused(6, 0) })?;
             compare(n, greatest, if right { served(lowest) } else { refused(6, last) })?;
         }

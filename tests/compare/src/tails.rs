@@ -1,23 +1,23 @@
 //! Tails, what stands in a buffer past the image: zeros written by the builder to the buffer's end, and read by the check; the other calls do
 //! not depend on them. Lengths of 0 to 80 bytes go through a block of 64 bytes, one of 8 and single bytes, one after the other. Before the tail
-//! stand the filling bits of a full image, for which the same holds.
+//! stand the filling bits of an image, for which the same holds.
 use crate::both::{told, Both};
 use crate::fences::calls;
-use crate::independent::{formats, power, rom, table, Judged};
+use crate::independent::{is_usual, kept, power, rom, table, Judged};
 use crate::lent::{Buffer, Guards};
 use crate::library::{Answer, Format};
 use crate::random::Random;
 use crate::work::{share, Counted};
 
-/// The lengths of tails: each `step`-th.
-fn lengths(step: usize) -> impl Iterator<Item = usize> {
-    (0..=80).step_by(step)
+/// The lengths of tails: each `step`-th, and with other guard bits at the greater precisions each fifth of these.
+fn lengths(format: Format, step: usize) -> impl Iterator<Item = usize> {
+    (0..=80).step_by(step * if is_usual(format) || format.precision <= 6 { 1 } else { 5 })
 }
 
 /// A format, and how many bytes after a multiple of 64 a buffer starts: one start alone where the lengths are not all.
-fn works(step: usize, starts: impl Fn(Format) -> Vec<usize>) -> Vec<(Format, usize)> {
+fn works(formats: &[Format], step: usize, starts: impl Fn(Format) -> Vec<usize>) -> Vec<(Format, usize)> {
     let starts = |format| if step == 1 { starts(format) } else { vec![0] };
-    formats().rev().flat_map(|format| starts(format).into_iter().map(move |start| (format, start))).collect()
+    formats.iter().rev().flat_map(|format| starts(*format).into_iter().map(move |start| (*format, start))).collect()
 }
 
 /// Some of the 64 bytes at which a buffer may start, the first and the last of a block of 8 and of the line among them.
@@ -25,18 +25,20 @@ const SOME: [usize; 8] = [0, 1, 7, 8, 15, 31, 32, 63];
 
 /// Where buffers start that are checked. The words of long images take most of the time.
 fn checked_at(format: Format) -> Vec<usize> {
-    match (format.form, format.precision) {
-        (0, ..=9) => (0..64).collect(),
-        (0, _) | (_, ..=6) => SOME.to_vec(),
-        _ => vec![0, 31],
+    match (is_usual(format), format.form, format.precision) {
+        (true, 0, ..=9) => (0..64).collect(),
+        (true, 0, _) | (true, _, ..=6) => SOME.to_vec(),
+        (true, _, _) | (false, _, ..=6) => vec![0, 31],
+        (false, _, _) => vec![7],
     }
 }
 
 /// Where buffers start in which is built.
 fn built_at(format: Format) -> Vec<usize> {
-    match format.form {
-        0 => (0..64).collect(),
-        _ => SOME.to_vec(),
+    match (is_usual(format), format.form) {
+        (true, 0) => (0..64).collect(),
+        (true, _) => SOME.to_vec(),
+        (false, _) => vec![0, 31],
     }
 }
 
@@ -67,14 +69,14 @@ impl Changed {
 
     /// The calls that look at nothing behind the words: about the last of them.
     fn others(&mut self) -> Result<(), String> {
-        let k = self.judged.format.precision;
-        let last = power(k) as u32;
+        let format = self.judged.format;
+        let last = power(format.precision) as u32;
         let mut both = Both::new(self.buffer.lent(), &self.judged, self.buffer.bytes());
         both.node(last - 1)?;
         both.node(last)?;
         both.word_bytes(last - 1)?;
         both.word_bytes(last)?;
-        both.reciprocal(2 * k + 3, (1 << (2 * k + 4)) - 1)?;
+        both.reciprocal(kept(format), (2 << kept(format)) - 1)?;
         self.cases += both.cases;
         Ok(())
     }
@@ -89,12 +91,12 @@ impl Changed {
 
 /// Images built over bytes of which none is zero in the tail: after it stand the image and zeros, and the guard bytes. Where the buffer is too
 /// short by a byte, or there is no such precision, every byte stays.
-pub fn built(guards: Guards, step: usize) -> Counted {
-    share(&works(step, built_at), |&(format, start)| {
+pub fn built(guards: Guards, formats: &[Format], step: usize) -> Counted {
+    share(&works(formats, step, built_at), |&(format, start)| {
         let image = &table(format).image;
         let mut random = Random::new(start as u64);
         let mut cases = 0;
-        for more in lengths(step) {
+        for more in lengths(format, step) {
             let length = image.len() + more;
             let content: Vec<u8> = random.bytes(image.len()).into_iter().chain(random.bytes(more).into_iter().map(|b| b | 16)).collect();
             let mut buffer = Buffer::new(guards, start, &content);
@@ -117,11 +119,11 @@ pub fn built(guards: Guards, step: usize) -> Counted {
 }
 
 /// Full ROMs, which pass the check, and every single bit behind their words changed; the other calls once with each byte changed.
-pub fn one_bit(guards: Guards, step: usize) -> Counted {
-    share(&works(step, checked_at), |&(format, start)| {
+pub fn one_bit(guards: Guards, formats: &[Format], step: usize) -> Counted {
+    share(&works(formats, step, checked_at), |&(format, start)| {
         let image = &table(format).image;
         let mut cases = 0;
-        for more in lengths(step) {
+        for more in lengths(format, step) {
             let mut changed = Changed::new(guards, format, start, &rom(format, image.len() + more));
             changed.check()?;
             changed.others()?;
@@ -142,13 +144,13 @@ pub fn one_bit(guards: Guards, step: usize) -> Counted {
 
 /// Full ROMs in which several bits behind the words are set, of which the lowest byte is named, and the same with a wrong word, which is named
 /// before them.
-pub fn several(guards: Guards, step: usize) -> Counted {
-    share(&works(step, checked_at), |&(format, start)| {
+pub fn several(guards: Guards, formats: &[Format], step: usize) -> Counted {
+    share(&works(formats, step, checked_at), |&(format, start)| {
         let image = &table(format).image;
         let bits = table(format).bits.len() as u64;
         let mut random = Random::new(start as u64 ^ 77);
         let mut cases = 0;
-        for more in lengths(step).filter(|more| *more > 0) {
+        for more in lengths(format, step).filter(|more| *more > 0) {
             let mut changed = Changed::new(guards, format, start, &rom(format, image.len() + more));
             let behind = 8 * (image.len() + more) as u64 - bits;
             for _ in 0..12 {
@@ -179,14 +181,29 @@ pub fn several(guards: Guards, step: usize) -> Counted {
     })
 }
 
+/// The images that have filling bits, by their form, their table guard bits and their precisions.
+const FILLED: [(u32, u32, &[u32]); 5] = [
+    (0, 3, &[1, 2]),
+    (0, 4, &[1]),
+    (1, 2, &[1, 3, 4, 5, 7, 8, 9, 11, 12]),
+    (1, 3, &[1, 2, 3, 4, 5, 6, 7, 8, 9, 10, 11, 12]),
+    (1, 4, &[2, 3, 4, 6, 7, 8, 10, 11, 12]),
+];
+
+/// Whether an image has filling bits. It is compared with the list of those that have.
+fn has_filling(format: Format) -> bool {
+    let Format { precision, form, table_guard_bits, .. } = format;
+    let listed = FILLED.iter().any(|(f, a, precisions)| (*f, *a) == (form, table_guard_bits) && precisions.contains(&precision));
+    assert_eq!(table(format).bits.len() % 8 != 0, listed, "{format}: whether its image has filling bits");
+    listed
+}
+
 /// The filling bits, each alone and in every combination, with no tail, with zeros and with a byte that is not zero behind the image: where
 /// every word is right the check names the image's last byte, and no other call is changed. The same with a wrong word, which is named before
 /// it. Where not the whole is asked for, each alone.
-pub fn filling(guards: Guards, whole: bool) -> Counted {
-    let filled: Vec<Format> = formats().filter(|format| table(*format).bits.len() % 8 != 0).collect();
-    assert_eq!(filled, [1, 3, 4, 5, 7, 8, 9, 11, 12].map(Format::full), "the images that have filling bits");
-    let works: Vec<(Format, usize)> =
-        filled.into_iter().flat_map(|format| (0..if whole { 16 } else { 1 }).map(move |start| (format, start))).collect();
+pub fn filling(guards: Guards, formats: &[Format], starts: usize, whole: bool) -> Counted {
+    let filled = formats.iter().filter(|format| has_filling(**format));
+    let works: Vec<(Format, usize)> = filled.flat_map(|format| (0..starts).map(move |start| (*format, 5 * start % 16))).collect();
     share(&works, |&(format, start)| {
         let (bits, image) = (table(format).bits.len(), &table(format).image);
         let named = Answer { number: 7, place: image.len() as u64 - 1, value: 0 };

@@ -1,15 +1,15 @@
 //! Blocks of memory that nothing was written to, for a run under a memory checker: it reports a byte that a builder leaves out, or
 //! makes from what stood there.
 use crate::both::Both;
-use crate::independent::{formats, rom, table, Judged};
-use crate::library::Lent;
+use crate::independent::{rom, table, Judged};
+use crate::library::{Format, Lent};
 use crate::work::Counted;
 use std::alloc::{alloc, dealloc, Layout};
 use std::slice;
 
-pub fn built() -> Counted {
+pub fn built(formats: &[Format]) -> Counted {
     let mut cases = 0;
-    for (format, more) in formats().flat_map(|format| [0, 1, 15, 64, 200].map(|more| (format, more))) {
+    for (format, more) in formats.iter().flat_map(|format| [0, 1, 15, 64, 200].map(|more| (*format, more))) {
         let full = rom(format, table(format).image.len() + more);
         let block = Layout::array::<u8>(full.len()).expect("a short block");
         let judged = Judged::new(format, &full, full.len());
