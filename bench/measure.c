@@ -196,6 +196,40 @@ CHECKS(full_library, library_full, FULL)
 CHECKS(full_careful_2, careful_O2_full, FULL)
 CHECKS(full_careful_3, careful_O3_full, FULL)
 
+// The library beside general C: the table that is asked for, and its image.
+static yildegga_format ordered;
+static uint8_t ordered_image[YILDEGGA_ANY_LONGEST_IMAGE], ordered_built[YILDEGGA_ANY_LONGEST_IMAGE];
+static size_t ordered_length;
+
+#define ORDERED ordered_image, ordered_length
+#define ANY(name, prefix)                                                                          \
+    static long name##_builds(void)                                                                \
+    {                                                                                              \
+        for (int s = 0; s < 4; s++)                                                                \
+            sink = JOIN(prefix, build)(ordered, ordered_built, ordered_length).number;             \
+        return 4;                                                                                  \
+    }                                                                                              \
+    static long name##_checks(void)                                                                \
+    {                                                                                              \
+        for (int s = 0; s < 4; s++)                                                                \
+            sink = JOIN(prefix, check)(ordered, ORDERED).number;                                   \
+        return 4;                                                                                  \
+    }                                                                                              \
+    static long name##_node(void)                                                                  \
+    {                                                                                              \
+        uint64_t sum = 0;                                                                          \
+        for (int s = 0; s < OPERANDS; s++) {                                                       \
+            answer a = JOIN(prefix, node)(ordered, ORDERED, js[s]);                                \
+            sum += a.value ^ a.number;                                                             \
+        }                                                                                          \
+        sink = sum;                                                                                \
+        return OPERANDS;                                                                           \
+    }                                                                                              \
+    PASSES(name, answer, a.value ^ a.number, JOIN(prefix, reciprocal)(ordered, ORDERED, n, x))
+ANY(any_library, library_any)
+ANY(any_general_2, general_O2)
+ANY(any_general_3, general_O3)
+
 // Full ROMs of precision 8, in one buffer: each pass builds or checks the first `rom_length` bytes, or the image alone, or has the tail alone.
 enum { ROM_K = 8, ROM_MOST = 1 << 24 };
 static uint8_t rom[ROM_MOST];
@@ -405,6 +439,46 @@ static void full_words(void)
     three_row("  through the bound table", 1);
 }
 
+static void any_row(const char *call)
+{
+    char name[64];
+    snprintf(name, sizeof name, "%s, k = %u", call, k);
+    three_row(name, 1);
+}
+
+// Precision, form and guard bits are known at run time alone, in the library and in C.
+static void any_table(uint32_t form, uint32_t a, uint32_t b)
+{
+    char unit[64];
+    snprintf(unit, sizeof unit, "%s, a = %u, b = %u, nanoseconds", form == YILDEGGA_PLAIN_WORDS ? "plain" : "full", a, b);
+    three_head(unit);
+    n = 63;
+    for (k = 4; k <= GREATEST; k += 4) {
+        ordered = YILDEGGA_TABLE(k, form, a, b);
+        ordered_length = YILDEGGA_TABLE_IMAGE_LENGTH(k, form, a);
+        library_any_build(ordered, ordered_image, ordered_length);
+        CONTEST(NULL, any_library_builds, any_general_2_builds, any_general_3_builds);
+        any_row("build");
+        CONTEST(NULL, any_library_checks, any_general_2_checks, any_general_3_checks);
+        any_row("check");
+        CONTEST(at_random, any_library_node, any_general_2_node, any_general_3_node);
+        any_row("node");
+        CONTEST(at_random, any_library, any_general_2, any_general_3);
+        any_row("reciprocal");
+        CONTEST(at_random, any_library_in_turn, any_general_2_in_turn, any_general_3_in_turn);
+        three_row("  in turn", 1);
+    }
+}
+
+static void other_guard_bits(void)
+{
+    printf("\nOther guard bits: the same algorithm with the same checks in C that takes every table, random operands\n");
+    for (uint32_t form = YILDEGGA_PLAIN_WORDS; form <= YILDEGGA_FULL_WORDS; form++) {
+        any_table(form, 3, 4);
+        any_table(form, 4, 5);
+    }
+}
+
 // The tail alone in each round, what the long buffer takes more than the image, as a ratio to the last contestant: its median.
 static double tail_ratio(int rom_pass, int image_pass, int alone)
 {
@@ -531,6 +605,7 @@ int main(void)
     make_images();
     same_algorithm();
     full_words();
+    other_guard_bits();
     full_roms();
     instead(8);
     instead(12);

@@ -57,16 +57,6 @@ static inline placed put_placed(uint8_t *image, placed to, uint32_t width, uint6
     return (placed){word, place};
 }
 
-// Added to 2^32 + 1 - 2^-20 the quotient leaves 20 bits behind the point, and the lowest 32 before it are the quotient rounded up: it lies 2^-13 or
-// more from every whole number unless it is one, and no rounding mode moves it so far.
-static inline uint64_t guessed(double dividend, double divisor)
-{
-    double raised = dividend / divisor + 4294967296.99999904632568359375;
-    uint64_t bits;
-    memcpy(&bits, &raised, 8);
-    return (uint32_t)(bits >> 20);
-}
-
 // The words of nodes 0 to `words` - 1, then `filling` zero bits, and zeros to the buffer's end. A guess counts only where it is right; where it is wrong,
 // whole numbers are divided. It is inlined, so that what the form settles is constant.
 static inline __attribute__((always_inline)) answer judged(uint32_t k, uint32_t width, uint64_t words, uint32_t filling, uint8_t *image, size_t length)
