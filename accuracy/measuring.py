@@ -14,8 +14,8 @@ from archives import archive  # noqa: E402
 PROGRAM = ROOT / "target" / "accuracy" / "measure"
 PARTS = 2 ** 32  # lengths are printed in these parts of the distance from one cut operand to the next
 
-# What is measured at a precision. An error is (over, under): over / under ulps, found at X = under with 2k + 3 fraction bits.
-Measured = namedtuple("Measured", "k operands sum below above limit exact nearest length edges")
+# What is measured of a table. An error is (over, under): over / under ulps, found at X = under with 2k + b fraction bits.
+Measured = namedtuple("Measured", "k a b operands sum below above limit exact nearest length edges")
 
 
 def command(*words):
@@ -42,9 +42,9 @@ def number(text):
 
 
 @functools.cache
-def measured():
-    """A Measured for each precision, over all its cut operands."""
-    names, *rows = lines()
+def measured(*words):
+    """A Measured for each precision, over all its cut operands, with 2 and 3 guard bits; where a precision is named, for each choice of them at it."""
+    names, *rows = lines(*map(str, words))
     assert tuple(names) == Measured._fields, f"the columns are {names}"
     return [Measured(*map(number, row)) for row in rows]
 

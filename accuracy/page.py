@@ -7,9 +7,14 @@ import measuring
 PAGE = measuring.ROOT / "docs" / "ACCURACY.md"
 BEGIN, END = "<!-- measured: accuracy/run writes this -->\n", "<!-- end of measured -->\n"
 
-# Document 002, Table 4: percentage of inputs not RN at g_i = 3 and g_t = 2, by k.
-TABLE_4 = {2: "8.419", 3: "8.896", 4: "7.405", 5: "7.851", 6: "7.772", 7: "7.367", 8: "7.535"}
+# Document 002, Table 4: percentage of inputs not RN, by g_t and g_i, which are a and b, and by k. What stands on the page is at k = 8, or at 2 and 3.
+TABLE_4 = {
+    (2, 3): {2: "8.419", 3: "8.896", 4: "7.405", 5: "7.851", 6: "7.772", 7: "7.367", 8: "7.535"},
+    (2, 4): {8: "7.119"},
+    (3, 3): {8: "6.078"},
+}
 AROUND_80 = range(4, 13)  # document 002, section 4: reciprocals of 8 to 24 bits
+GUARDED = 8  # the precision at which every choice of guard bits is measured
 
 
 def error(pair):
@@ -18,28 +23,37 @@ def error(pair):
     return f"{measuring.decimal(exact, exact, 6)} = {pair[0]}/{pair[1]}"
 
 
-def lemma_7(k):
-    """The bound of document 002 on the error before R is chopped, at g_i = 3 and g_t = 2."""
-    bound = Fraction(1, 2) - Fraction(3, 2 ** (k + 2)) + Fraction(1, 2 ** (2 * k)) + Fraction(1, 4) + Fraction(1, 4)
+def lemma_7(row):
+    """The bound of document 002 on the error before R is chopped, at g_t = a and g_i = b."""
+    bound = Fraction(1, 2) - Fraction(3, 2 ** (row.k + 2)) + Fraction(1, 2 ** (2 * row.k)) + Fraction(1, 2 ** row.a) + Fraction(1, 2 ** (row.b - 1))
     return measuring.decimal(bound, bound, 6)
 
 
 def mean_error(row):
-    """The mean of R less the mean of the exact reciprocals, which is 2^(2k+1) times the natural logarithm of 2."""
+    """Between which two numbers lies the mean of R less the mean of the exact reciprocals, which is 2^(2k+1) times the natural logarithm of 2."""
     with localcontext() as context:
         context.prec = 50
         log = Fraction(Decimal(2).ln())
     near = Fraction(1, 10 ** 40)
-    ends = [Fraction(row.sum, row.operands) - 2 ** (2 * row.k + 1) * end for end in (log + near, log - near)]
-    return measuring.decimal(*ends, 4)
+    return [Fraction(row.sum, row.operands) - 2 ** (2 * row.k + 1) * end for end in (log + near, log - near)]
 
 
 def percent(low, high):
     return measuring.decimal(100 * low, 100 * high, 3)
 
 
-def compensated(k):
-    return str(100 - Decimal(TABLE_4[k])) if k in TABLE_4 else "–"
+def compensated(row):
+    """The share of nearest results in percent by document 002's Table 4, with compensation, and None where the table has none."""
+    others = TABLE_4.get((row.a, row.b), {}).get(row.k)
+    return others and 100 - Decimal(others)
+
+
+def errors(row):
+    return [error(row.below), error(row.above), error(row.limit), lemma_7(row), measuring.decimal(*mean_error(row), 4)]
+
+
+def shares(row, *beside):
+    return [row.operands, percent(*measuring.share(row)), *beside, compensated(row) or "–", percent(*[Fraction(row.nearest, row.operands)] * 2)]
 
 
 def table(head, rows):
@@ -48,14 +62,18 @@ def table(head, rows):
 
 
 def tables():
-    rows = measuring.measured()
-    errors = [[row.k, error(row.below), error(row.above), error(row.limit), lemma_7(row.k), mean_error(row)] for row in rows]
-    shares = [[row.k, row.operands, percent(*measuring.share(row)), "around 80" if row.k in AROUND_80 else "–", compensated(row.k),
-               percent(*[Fraction(row.nearest, row.operands)] * 2)] for row in rows]
-    return ("Errors in ulps:\n\n"
-            + table(["k", "largest below", "largest above, at cut operands", "largest above, approached", "document 002, Lemma 7", "mean error"], errors)
-            + "\nNearest results in percent:\n\n"
-            + table(["k", "cut operands", "of all operands", "document 002, section 4", "document 002, Table 4", "of cut operands"], shares))
+    usual, guarded = measuring.measured(), measuring.measured(GUARDED)
+    of_errors = ["largest below", "largest above, at cut operands", "largest above, approached", "document 002, Lemma 7", "mean error"]
+    of_shares = ["cut operands", "of all operands", "document 002, Table 4", "of cut operands"]
+    return ("Errors in ulps, with two table guard bits and three input guard bits:\n\n"
+            + table(["k", *of_errors], [[row.k, *errors(row)] for row in usual])
+            + "\nNearest results in percent, with the same:\n\n"
+            + table(["k", *of_shares[:2], "document 002, section 4", *of_shares[2:]],
+                    [[row.k, *shares(row, "around 80" if row.k in AROUND_80 else "–")] for row in usual])
+            + f"\nErrors in ulps at k = {GUARDED}, by table guard bits a and input guard bits b:\n\n"
+            + table(["a, b", *of_errors], [[f"{row.a}, {row.b}", *errors(row)] for row in guarded])
+            + f"\nNearest results in percent at k = {GUARDED}:\n\n"
+            + table(["a, b", *of_shares], [[f"{row.a}, {row.b}", *shares(row)] for row in guarded]))
 
 
 def page(text):

@@ -1,4 +1,6 @@
 """Draws docs/pictures/*.svg from what accuracy/measure.c prints."""
+from fractions import Fraction
+
 import measuring
 import page
 
@@ -9,22 +11,26 @@ INK, GREY, PALE, BLUE, ORANGE, GREEN = "#222222", "#666666", "#d5d5d5", "#1f5fa8
 
 class Plot:
     """A picture with a left and a lower axis; points are given in the numbers of the axes."""
-    WIDTH, HEIGHT = 960, 560
-    LEFT, RIGHT, TOP, BOTTOM = 92, 936, 60, 440
+    WIDTH, LEFT, RIGHT = 960, 92, 936
 
-    def __init__(self, title, x, y):
-        self.x, self.y = x, y
+    def __init__(self, title, x, y, height=560):
+        self.x = x
+        self.panel(y, 60, height - 120)
         self.parts = [
-            f'<svg xmlns="http://www.w3.org/2000/svg" viewBox="0 0 {self.WIDTH} {self.HEIGHT}" width="{self.WIDTH}" height="{self.HEIGHT}"'
+            f'<svg xmlns="http://www.w3.org/2000/svg" viewBox="0 0 {self.WIDTH} {height}" width="{self.WIDTH}" height="{height}"'
             ' font-family="DejaVu Sans, Verdana, Arial, sans-serif" font-size="16">',
             f"<title>{title}</title>",
-            f'<rect width="{self.WIDTH}" height="{self.HEIGHT}" fill="#ffffff"/>']
+            f'<rect width="{self.WIDTH}" height="{height}" fill="#ffffff"/>']
         self.text(self.WIDTH / 2, 32, title, size=19)
+
+    def panel(self, y, top, bottom):
+        """What follows stands between these two, with a left axis of its own."""
+        self.y, self.top, self.bottom = y, top, bottom
 
     def place(self, x, y):
         across = (x - self.x[0]) / (self.x[1] - self.x[0])
         up = (y - self.y[0]) / (self.y[1] - self.y[0])
-        return self.LEFT + across * (self.RIGHT - self.LEFT), self.BOTTOM - up * (self.BOTTOM - self.TOP)
+        return self.LEFT + across * (self.RIGHT - self.LEFT), self.bottom - up * (self.bottom - self.top)
 
     def text(self, left, top, words, anchor="middle", color=INK, size=16, turn=""):
         self.parts.append(f'<text x="{left:.2f}" y="{top:.2f}" text-anchor="{anchor}" fill="{color}" font-size="{size}"{turn}>{words}</text>')
@@ -38,25 +44,31 @@ class Plot:
         left, top = self.place(x, y)
         self.parts.append(f'<circle cx="{left:.2f}" cy="{top:.2f}" r="{radius}" fill="{fill}" stroke="{color}" stroke-width="2"/>')
 
+    def label(self, x, y, down, words, color):
+        """A figure above or below a point, on white, so that no line runs through it."""
+        left, top = self.place(x, y)
+        self.parts.append(f'<rect x="{left - 24:.2f}" y="{top + down - 12:.2f}" width="48" height="15" fill="#ffffff"/>')
+        self.text(left, top + down, words, color=color, size=14)
+
     def level(self, y, color, width, dashes=""):
         self.line([(self.x[0], y), (self.x[1], y)], color, width, dashes)
 
     def ticks(self, across, up):
         """Both axes with a label at each of these numbers."""
         for x, label in across:
-            self.text(self.place(x, self.y[0])[0], self.BOTTOM + 24, label)
+            self.text(self.place(x, self.y[0])[0], self.bottom + 24, label)
         for y, label in up:
             self.text(self.LEFT - 10, self.place(self.x[0], y)[1] + 5.5, label, "end")
         self.line([(self.x[0], self.y[1]), (self.x[0], self.y[0]), (self.x[1], self.y[0])], INK, 1.5)
 
     def names(self, across, up):
-        middle = (self.TOP + self.BOTTOM) / 2
-        self.text((self.LEFT + self.RIGHT) / 2, self.BOTTOM + 52, across)
+        middle = (self.top + self.bottom) / 2
+        self.text((self.LEFT + self.RIGHT) / 2, self.bottom + 52, across)
         self.text(26, middle, up, turn=f' transform="rotate(-90 26 {middle:.2f})"')
 
     def sample(self, column, row, words, color, fill=None, dashes=""):
         """An entry of the legend: a dot where it has a fill, else a line."""
-        left, top = self.LEFT + column, self.BOTTOM + 82 + 26 * row
+        left, top = self.LEFT + column, self.bottom + 82 + 26 * row
         if fill:
             self.parts.append(f'<circle cx="{left + 16}" cy="{top - 5}" r="5.5" fill="{fill}" stroke="{color}" stroke-width="2"/>')
         else:
@@ -137,7 +149,7 @@ def shares_picture():
     rows = measuring.measured()
     of_all = [(row.k, 100 * float(sum(measuring.share(row)) / 2)) for row in rows]
     of_cut = [(row.k, 100 * row.nearest / row.operands) for row in rows]
-    table_4 = [(k, 100 - float(text)) for k, text in page.TABLE_4.items()]
+    table_4 = [(row.k, float(page.compensated(row))) for row in rows if page.compensated(row)]
 
     plot.line([(page.AROUND_80[0] - 0.4, 80), (page.AROUND_80[-1] + 0.4, 80)], ORANGE, 2, "9 5")
     for points, color, fill in ((of_all, BLUE, BLUE), (of_cut, GREY, "#ffffff"), (table_4, ORANGE, "#ffffff")):
@@ -154,6 +166,51 @@ def shares_picture():
     return plot.svg()
 
 
+def guard_bits_picture(k):
+    """The errors and the share of nearest results by guard bits, beside document 002's figures."""
+    rows = measuring.measured(k)
+    across = {(row.a, row.b): 4 * row.a + row.b for row in rows}  # the choices with the same a side by side
+    labels = [(x, f"{a}, {b}") for (a, b), x in across.items()]
+    ends = min(across.values()) - 0.8, max(across.values()) + 0.8
+    plot = Plot(f"Errors and nearest results by guard bits, k = {k}", ends, (-1.25, 1.25), 780)
+
+    plot.panel((-1.25, 1.25), 60, 360)
+    plot.level(0, GREY, 1)
+    for y in (-1, 1):
+        plot.level(y, INK, 1.5, "9 5")
+    for y in (-0.5, 0.5):
+        plot.level(y, GREY, 1.5, "2 4")
+    for row in rows:
+        x = across[row.a, row.b]
+        below, above, mean = -Fraction(*row.below), Fraction(*row.limit), sum(page.mean_error(row)) / 2
+        plot.line([(x, below), (x, above)], BLUE, 16)
+        plot.dot(x, mean, BLUE, "#ffffff")
+        plot.label(x, 1, -8, measuring.decimal(above, above, 3), BLUE)
+        plot.label(x, -1, 19, measuring.decimal(below, below, 3), BLUE)
+    plot.ticks(labels, [(-1, "−1"), (-0.5, "−½"), (0, "0"), (0.5, "½"), (1, "1")])
+    plot.names("", "R − exact, in ulps")
+
+    plot.panel((60, 100), 420, 660)
+    for y in range(60, 101, 10):
+        plot.level(y, PALE, 1)
+    of_all = {(row.a, row.b): 100 * float(sum(measuring.share(row)) / 2) for row in rows}
+    table_4 = {(row.a, row.b): float(page.compensated(row)) for row in rows if page.compensated(row)}
+    for shares, color, fill in ((of_all, BLUE, BLUE), (table_4, ORANGE, "#ffffff")):
+        for a in (2, 3, 4):
+            plot.line([(across[pair], share) for pair, share in shares.items() if pair[0] == a], color, 1.2)
+        for pair, share in shares.items():
+            plot.label(across[pair], share, -12, f"{share:.1f}%", color)
+            plot.dot(across[pair], share, color, fill)
+    plot.ticks(labels, [(y, f"{y}%") for y in range(60, 101, 10)])
+    plot.names("table guard bits a, input guard bits b", "nearest results")
+    plot.sample(0, 0, "from the largest error below to the largest above", BLUE)
+    plot.sample(484, 0, "the mean", BLUE, "#ffffff")
+    plot.sample(640, 0, "the proved bound", INK, dashes="9 5")
+    plot.sample(0, 1, "nearest, measured, of all operands", BLUE, BLUE)
+    plot.sample(400, 1, "document 002, Table 4: with compensation", ORANGE, "#ffffff")
+    return plot.svg()
+
+
 def pictures():
     """Each picture by its name."""
-    return {"error-k2.svg": error_picture(2), "shares.svg": shares_picture()}
+    return {"error-k2.svg": error_picture(2), "shares.svg": shares_picture(), "guard-bits.svg": guard_bits_picture(page.GUARDED)}

@@ -27,10 +27,10 @@ def pictures_are_drawn():
     return next((f"{name}, {why}" for name, svg in drawn.items() if (why := same((pictures.FOLDER / name).read_text(), svg))), None)
 
 
-def by_fractions(k):
-    """What is measured at precision k, from the reference's reciprocals; the share of all operands in place of its length, and no edges."""
-    n = 2 * k + 3
-    given = {t: reference.reciprocal(k, n, t) for t in range(2 ** n, 2 ** (n + 1))}
+def by_fractions(k, a=2, b=3):
+    """What is measured of a table, from the reference's reciprocals; the share of all operands in place of its length, and no edges."""
+    n = 2 * k + b
+    given = {t: reference.reciprocal(k, n, t, a, b) for t in range(2 ** n, 2 ** (n + 1))}
     exact = {t: Fraction(2 ** n, t) * 2 ** (2 * k + 1) for t in range(2 ** n, 2 ** (n + 1) + 1)}
     below = max((exact[t] - given[t], -t) for t in given)
     above = max((given[t] - exact[t], -t) for t in given)
@@ -39,18 +39,33 @@ def by_fractions(k):
     nearest = sum(abs(given[t] - exact[t]) < half for t in given)
     length = sum(max(0, min(t + 1, exact[2 ** n] * 2 ** n / (given[t] - half)) - max(t, exact[2 ** n] * 2 ** n / (given[t] + half)))
                  for t in given)
-    return measuring.Measured(k, len(given), sum(given.values()), below, above, limit, sum(given[t] == exact[t] for t in given), nearest,
+    return measuring.Measured(k, a, b, len(given), sum(given.values()), below, above, limit, sum(given[t] == exact[t] for t in given), nearest,
                               length / len(given), None)
 
 
-def measured_by_fractions(k):
-    found, expected = measuring.measured()[k - 1], by_fractions(k)
+def fractions_differ(found):
+    """How what is measured of a table differs from what fractions give."""
+    expected = by_fractions(found.k, found.a, found.b)
     errors = {name: (Fraction(*getattr(found, name)), -getattr(found, name)[1]) for name in ("below", "above", "limit")}
     low, high = measuring.share(found)
     bad = [name for name, pair in errors.items() if pair != getattr(expected, name)]
-    bad += [name for name in ("k", "operands", "sum", "exact", "nearest") if getattr(found, name) != getattr(expected, name)]
+    bad += [name for name in ("operands", "sum", "exact", "nearest") if getattr(found, name) != getattr(expected, name)]
     bad += [] if low < expected.length < high and high - low < Fraction(1, 10 ** 8) else ["length"]
     return f"{bad}: found {found}, expected {expected}" if bad else None
+
+
+def measured_by_fractions(k):
+    found = measuring.measured()[k - 1]
+    return f"the precision: found {found}" if found[:3] != (k, 2, 3) else fractions_differ(found)
+
+
+def guard_bits_by_fractions(k):
+    """Each choice of guard bits is measured once, and is what fractions give."""
+    rows = measuring.measured(k)
+    found = [row[:3] for row in rows]
+    if found != [(k, a, b) for a in (2, 3, 4) for b in (3, 4, 5)]:
+        return f"found {found}"
+    return next((why for row in rows if (why := fractions_differ(row))), None)
 
 
 def digits(k):
@@ -77,3 +92,5 @@ def tests():
     for k in range(1, 5):
         yield f"accuracy: what is measured at precision {k} is what fractions give", lambda k=k: measured_by_fractions(k)
         yield f"accuracy: the page's figures of precision {k} are what fractions give", lambda k=k: page_by_fractions(k)
+    for k in range(1, 4):
+        yield f"accuracy: what is measured with each choice of guard bits at precision {k} is what fractions give", lambda k=k: guard_bits_by_fractions(k)
