@@ -24,7 +24,8 @@ static inline answer refused(uint32_t number)
 #define FOR_A_FORM static inline __attribute__((always_inline))
 
 // The 64 bits of the image from bit number `bit` on, where a word begins, zeros past its end. An image of fewer than 8 bytes loses its filling bits, so
-// that they are not taken for node 2^k: a longer plain image has none, and in the full form no word behind the last one is read.
+// that they are not taken for node 2^k: a longer plain image has none, and in the full form no word behind the last one is read. It stands beside `bits_from`
+// in reading.h with its own loop: with one loop for both, gcc at -O2 made a check of full words at k = 12 a quarter slower.
 FOR_A_FORM uint64_t words_from(const uint8_t *image, size_t bytes, uint64_t bits, uint64_t bit)
 {
     size_t at = bit / 8;

@@ -67,8 +67,8 @@ module _ (k n : ℕ) where
   pub exact_in_ulps : 2 ^ (n + 2 * k + 1) ≡ ulps_in_one k * 2 ^ n
   exact_in_ulps = Units.reciprocal_exact k n
 
-  pub reciprocal_of_one : (a b : ℕ) → 2 ≤ a → 3 ≤ b → reciprocal k a b n (2 ^ n) ≡ ulps_in_one k
-  reciprocal_of_one a b units steps = Reciprocals.reciprocal_of_least k a b n (2 ^ n) units steps refl
+  pub reciprocal_of_one : (a b : ℕ) → reciprocal k a b n (2 ^ n) ≡ ulps_in_one k
+  reciprocal_of_one a b = Reciprocals.reciprocal_of_least k a b n (2 ^ n) refl
 
 -- Given means right: nothing is assumed of the image s, nor of the format F, of n and of X, but that a reciprocal is given.
 module _ (F : Format) (s : List ℕ) (n X : ℕ) (given : (reciprocal_outcome F s n X).number ≡ 0) where
@@ -128,7 +128,7 @@ module _ (k a b n X : ℕ) (least : 2 ^ n ≤ X) (below : X < 2 ^ (n + 1)) where
 
 -- Both ends are reached: by the least operand, and by the greatest where it has 2k + b fraction bits or more.
 module _ (k a b n X : ℕ) where
-  pub reciprocal_of_least : 2 ≤ a → 3 ≤ b → X ≡ 2 ^ n → reciprocal k a b n X ≡ 2 ^ (2 * k + 1)
+  pub reciprocal_of_least : X ≡ 2 ^ n → reciprocal k a b n X ≡ 2 ^ (2 * k + 1)
   reciprocal_of_least = Reciprocals.reciprocal_of_least k a b n X
 
   pub reciprocal_of_greatest : 1 ≤ b → 2 * k + b ≤ n → X + 1 ≡ 2 ^ (n + 1) → reciprocal k a b n X ≡ 2 ^ (2 * k)

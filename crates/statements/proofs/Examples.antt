@@ -36,6 +36,7 @@ images_hold =
     also record { answered = refl; built = refl; read = refl; passes = refl }
     also record { answered = refl; built = refl; read = refl; passes = refl }
     also record { answered = refl; built = refl; read = refl; passes = refl }
+    also record { answered = refl; built = refl; read = refl; passes = refl }
     also tt
 
 roms_hold : Each RomHolds rom_examples
@@ -78,6 +79,7 @@ reciprocals_hold =
     also record { is_R = refl; given = refl; is_P = tt }
     also record { is_R = refl; given = refl; is_P = tt }
     also record { is_R = refl; given = refl; is_P = refl also tt }
+    also record { is_R = refl; given = refl; is_P = tt }
     also record { is_R = refl; given = refl; is_P = tt }
     also record { is_R = refl; given = refl; is_P = tt }
     also record { is_R = refl; given = refl; is_P = tt }

@@ -12,7 +12,7 @@
 -- 4. What stands behind the last plain word is not node 2^k, which no bit of the buffer has a part in: last_node_served, last_node_of_no_bit. What fills the
 --    last byte, and what stands behind it, changes no node and no reciprocal: node_by_bits, reciprocal_by_bits, in Demand2. The check alone judges it.
 -- 5. 18 is given right behind 1, for a or b out of range, by every call that takes them, also where b plays no part, and where bytes are shown the part is
---    empty: build_refuses_18, check_refuses_18, node_refuses_18, reciprocal_refuses_18, part_empty, in Demand1. Its place is 0: build_place, check_place,
+--    empty: build_refuses_18, check_refuses_18, node_refuses_18, reciprocal_refuses_18, part_empty, in Demand1; the length is then 0: no_length, in Demand2. Its place is 0: build_place, check_place,
 --    node_place_0, reciprocal_place_0, there too.
 -- 6. b plays no part in an image, nor in what the builder, the check and the reading of it answer, but that it must be in its range: image_for_any_b,
 --    length_for_any_b, build_for_any_b, leaves_for_any_b, check_for_any_b, node_for_any_b, part_for_any_b, part_place_for_any_b.

@@ -1,13 +1,13 @@
 -- The answer of the reciprocal: the limits of n and X before any list of refusals, the two words that are read, and the whole call.
 -- Assumes nothing.
-use mathlib.Core.Path.{◌≡◌, sym, ◌∙◌, ap}
+use mathlib.Core.Path.{◌≡◌, sym, ◌∙◌, ap, ap₂}
 use mathlib.Core.Logic.{◌↔◌, ◌⊎◌, ⊎_elim}
 use mathlib.Core.Bool.{not}
 use mathlib.Core.List.{List, [], ◌∷◌}
-use Prim.Native.Nat.{ℕ, ◌+◌, ◌-◌, ◌*◌, ◌^◌, ◌≤◌, ◌<◌}
-use native.Mathlib.Nat.{le_of_lt, lt_of_mul-lt-mul_right}
+use Prim.Native.Nat.{ℕ, ◌+◌, ◌-◌, ◌*◌, ◌/◌, ◌^◌, ◌≤◌, ◌<◌}
+use native.Mathlib.Nat.{le_of_lt, zero-div, zero-mod}
 use native.Mathlib.Omega.{arith}
-use lib.Pow.{pow-add, pow_pos}
+use lib.Pow.{pow-add, shl-shr}
 use lib.Dec.{T, eqb}
 use lib.ListN.{length}
 use Rattle.answers.specs.Refusal.{Refusal, Outcome, outcome, served}
@@ -22,13 +22,13 @@ use Rattle.operand.specs.Operand.{cut_operand}
 use Rattle.operand.specs.Refusals.{fraction_refusal, operand_refusal}
 use Rattle.operand.proofs.Laws.{cut_normalised, cut_greatest}
 use Rattle.operand.proofs.Limits.{operand_passes, operand_none}
-use Rattle.interpolation.specs.Algorithm.{index, node_number, fraction}
+use Rattle.interpolation.specs.Algorithm.{index, node_number, fraction, product_sum, chopped}
 use Rattle.interpolation.specs.Reciprocal.{read_reciprocal, reciprocal}
 use Rattle.interpolation.specs.Calls.{cut_refusals, reciprocal_outcome}
-use Rattle.interpolation.specs.Inner.{cut_outcome}
-use Rattle.interpolation.proofs.Bound.{reciprocal_low}
+use Rattle.interpolation.specs.Inner.{cut_of, cut_outcome}
+use Rattle.nodes.proofs.Nodes.{node_first}
 use Rattle.interpolation.proofs.Answers.{first-wrong, next_wrong, none_wrong, read_right as gives-R}
-use Rattle.interpolation.proofs.Cut.{cut_index, cut_number_below, cut_node_falls, cut_fraction_below, difference_most, cut_reciprocal_least, cut_reciprocal_most, cut_reciprocal_last}
+use Rattle.interpolation.proofs.Cut.{cut_index, cut_number_below, bits_number, bits_fraction, cut_node_falls, cut_fraction_below, difference_most, cut_reciprocal_least, cut_reciprocal_most, cut_reciprocal_last}
 use Rattle.statements.specs.Terms.{IsPrecision, AreGuardBits, IsOffered, IsLongEnough, IsRightAt, IsFractionCount, IsNormalised}
 use Rattle.statements.proofs.Iff.{joined, same, both, under, either, row3, row4, row5, row6, is_count, no_count, is-normalised, not_normalised, wrong_word, no_wrong_word, read_wrong, read_right}
 use Rattle.statements.proofs.Numbers.{alone, refuses_1, refuses_18, refuses_2, kept_answer, later_number}
@@ -118,15 +118,40 @@ module _ (k a b n X : ℕ) where
       let one_more : 2 * k + b + 1 ≡ 2 * k + (b + 1) = omega arith in
       cut_reciprocal_last k a b t some (rw one_more at (cut_greatest (2 * k + b) n e X last))
 
-  pub reciprocal_of_least : 2 ≤ a → 3 ≤ b → X ≡ 2 ^ n → reciprocal k a b n X ≡ 2 ^ (2 * k + 1)
-  reciprocal_of_least units steps one =
-      let below : X < 2 ^ (n + 1) = omega (arith, one, pow-add 2 n 1, pow_pos n) in
-      let least : 2 ^ n ≤ X = omega (arith, one) in
-      let whole : 2 ^ (n + 2 * k + 1) ≡ 2 ^ (2 * k + 1) * X =
-      ap (λ (x : ℕ). 2 ^ x) {x = n + 2 * k + 1} {y = 2 * k + 1 + n} (omega arith) ∙ pow-add 2 (2 * k + 1) n ∙ ap (λ (x : ℕ). 2 ^ (2 * k + 1) * x) (sym one) in
-      let reached : 2 ^ (2 * k + 1) < reciprocal k a b n X + 1 =
-      lt_of_mul-lt-mul_right X (omega (arith, whole, reciprocal_low k a b units steps n X least below)) in
-      omega (arith, reached, reciprocal_most (least, below))
+  -- the least operand is cut to the least, which is node 0 itself
+  pub reciprocal_of_least : X ≡ 2 ^ n → reciprocal k a b n X ≡ 2 ^ (2 * k + 1)
+  reciprocal_of_least one =
+      ap₂ (λ (i f : ℕ). chopped k a b (product_sum k b (c i) (c (i + 1)) f)) at_none fraction_none
+      ∙ ap (λ (P : ℕ). P / 2 ^ (k + (a + b))) at_first
+      ∙ shl-shr (2 ^ (2 * k + 1)) (k + (a + b))
+    where
+      moved : 2 ^ n * 2 ^ (2 * k + b - n) ≡ 2 ^ (2 * k + b) * 2 ^ (n - (2 * k + b))
+      moved =
+          sym (pow-add 2 n (2 * k + b - n))
+          ∙ ap (λ (e : ℕ). 2 ^ e) {x = n + (2 * k + b - n)} {y = 2 * k + b + (n - (2 * k + b))} (omega arith)
+          ∙ pow-add 2 (2 * k + b) (n - (2 * k + b))
+
+      least : t ≡ cut_of k b 0
+      least =
+          ap (λ (x : ℕ). x * 2 ^ (2 * k + b - n) / 2 ^ (n - (2 * k + b))) one
+          ∙ ap (λ (x : ℕ). x / 2 ^ (n - (2 * k + b))) moved
+          ∙ shl-shr (2 ^ (2 * k + b)) (n - (2 * k + b))
+          ∙ omega arith
+
+      at_none : at ≡ 0
+      at_none = ap (node_number k b) least ∙ bits_number k b 0 ∙ zero-div (2 ^ (k + b))
+
+      fraction_none : fraction k b t ≡ 0
+      fraction_none = ap (fraction k b) least ∙ bits_fraction k b 0 ∙ zero-mod (2 ^ (k + b))
+
+      ulps : 2 ^ (2 * k + (a + 1)) * 2 ^ (k + b) ≡ 2 ^ (2 * k + 1) * 2 ^ (k + (a + b))
+      ulps =
+          sym (pow-add 2 (2 * k + (a + 1)) (k + b))
+          ∙ ap (λ (e : ℕ). 2 ^ e) {x = 2 * k + (a + 1) + (k + b)} {y = 2 * k + 1 + (k + (a + b))} (omega arith)
+          ∙ pow-add 2 (2 * k + 1) (k + (a + b))
+
+      at_first : product_sum k b (c 0) (c 1) 0 ≡ 2 ^ (2 * k + 1) * 2 ^ (k + (a + b))
+      at_first = omega (arith, ap (λ (x : ℕ). x * 2 ^ (k + b)) (node_first k a), ulps)
 
 -- the whole call
 module _ (F : Format) (s : List ℕ) (n X : ℕ) where

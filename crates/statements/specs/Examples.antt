@@ -86,6 +86,9 @@ image1_24 = record { F = asked Plain 1 2 4; nodes = 32 ∷ 22 ∷ 16 ∷ []; byt
 abbrev pub image1_33 : ImageExample
 image1_33 = record { F = asked Plain 1 3 3; nodes = 64 ∷ 43 ∷ 32 ∷ []; bytes = 0x02 ∷ 0xC0 ∷ [] }
 
+abbrev pub image1_25 : ImageExample
+image1_25 = record { F = asked Plain 1 2 5; nodes = 32 ∷ 22 ∷ 16 ∷ []; bytes = 0x06 ∷ [] }
+
 abbrev pub image1_45 : ImageExample
 image1_45 = record { F = asked Plain 1 4 5; nodes = 128 ∷ 86 ∷ 64 ∷ []; bytes = 0x01 ∷ 0x60 ∷ [] }
 
@@ -105,7 +108,7 @@ full1_45 = record { F = asked Full 1 4 5; nodes = 128 ∷ 86 ∷ 64 ∷ []; byte
 
 abbrev pub image_examples : List ImageExample
 image_examples =
-    image1 ∷ image2 ∷ image3 ∷ full1 ∷ full2 ∷ image1_24 ∷ image1_33 ∷ image1_45 ∷ image2_34 ∷ full1_33 ∷ full1_45 ∷ []
+    image1 ∷ image2 ∷ image3 ∷ full1 ∷ full2 ∷ image1_24 ∷ image1_25 ∷ image1_33 ∷ image1_45 ∷ image2_34 ∷ full1_33 ∷ full1_45 ∷ []
 
 -- the answers of reading the first n nodes
 abbrev pub read_nodes : Format → List ℕ → ℕ → List Outcome
@@ -236,6 +239,7 @@ reciprocal_examples =
     ∷ record { from = image1; n = 6; X = 65; P = []; R = 8 }
     ∷ record { from = image1_24; n = 6; X = 65; P = []; R = 7 }
     ∷ record { from = image1_24; n = 7; X = 129; P = []; R = 8 }
+    ∷ record { from = image1_25; n = 7; X = 129; P = []; R = 7 }
     ∷ record { from = image1_45; n = 7; X = 129; P = []; R = 7 }
     ∷ record { from = full1_45; n = 7; X = 129; P = []; R = 7 }
     ∷ []
