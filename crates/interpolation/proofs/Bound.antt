@@ -2,14 +2,14 @@
 -- the nodes rounded up, from a = 2 and b = 3 on; and so for R at every k and n.
 -- Assumes nothing.
 use mathlib.Core.Path.{◌≡◌, sym, ap, subst}
-use Prim.Native.Nat.{ℕ, ◌+◌, ◌-◌, ◌*◌, ◌/◌, ◌%◌, ◌^◌, ◌≤◌, ◌<◌}
+use Prim.Native.Nat.{ℕ, ◌+◌, ◌-◌, ◌*◌, ◌%◌, ◌^◌, ◌≤◌, ◌<◌}
 use native.Mathlib.Nat.{mul-pos, lt_of_mul-lt-mul_right}
 use native.Mathlib.Omega.{arith}
 use lib.Pow.{pow_pos, pow_mono}
 use Rattle.quotient.specs.Quotient.{rounded_up}
+use Rattle.nodes.specs.Nodes.{node}
 use Rattle.operand.specs.Operand.{cut_to}
 use Rattle.operand.proofs.Laws.{cut_split, cut_rest, cut_range}
-use Rattle.interpolation.specs.Algorithm.{sum_over}
 use Rattle.interpolation.specs.Reciprocal.{reciprocal}
 use Rattle.interpolation.proofs.Core as core
 use Rattle.interpolation.proofs.Table as table
@@ -21,13 +21,10 @@ use Rattle.interpolation.proofs.Powers as powers
 longer : (k b : ℕ) → 2 ^ (2 * k + (b + 1)) ≡ 2 ^ (2 * k + b + 1)
 longer k b = ap (λ (e : ℕ). 2 ^ e) {x = 2 * k + (b + 1)} {y = 2 * k + b + 1} (omega arith)
 
-module _ (a b k : ℕ) where
-  -- j and R of a cut operand t, by any nodes c
-  abbrev number_of : ℕ → ℕ
-  number_of t = t / 2 ^ (k + b) - 2 ^ k
-
-  abbrev pub reciprocal_by : (ℕ → ℕ) → ℕ → ℕ
-  reciprocal_by c t = sum_over (2 ^ (k + b)) (c (number_of t)) (c (number_of t + 1)) (t % 2 ^ (k + b)) / 2 ^ (k + (a + b))
+module _ (k a b : ℕ) where
+  -- R of a cut operand t by the nodes c
+  abbrev R : (ℕ → ℕ) → ℕ → ℕ
+  R = powers.reciprocal_by k a b
 
   -- N = 2^(4k+b+1)
   abbrev exact_at : ℕ
@@ -40,12 +37,12 @@ module _ (a b k : ℕ) where
   -- nodes that keep the laws
   module _ {c E D : ℕ → ℕ} (nodes : Table (2 ^ a) (2 ^ b) (2 ^ k) c E D) where
     -- of a cut operand
-    pub cut_low : (t : ℕ) → 2 ^ (2 * k + b) ≤ t → t < 2 ^ (2 * k + (b + 1)) → exact_at < (reciprocal_by c t + 1) * t
+    pub cut_low : (t : ℕ) → 2 ^ (2 * k + b) ≤ t → t < 2 ^ (2 * k + (b + 1)) → exact_at < (R c t + 1) * t
     cut_low t l m =
         rw (powers.unit k a b, powers.width k a b)
         (table.bound_low nodes t (rw (powers.least k a b) at l) (rw (powers.most k a b) at m))
 
-    pub cut_high : (t : ℕ) → 2 ^ (2 * k + b) ≤ t → t < 2 ^ (2 * k + (b + 1)) → reciprocal_by c t * (t + 1) ≤ exact_at + (t + 1)
+    pub cut_high : (t : ℕ) → 2 ^ (2 * k + b) ≤ t → t < 2 ^ (2 * k + (b + 1)) → R c t * (t + 1) ≤ exact_at + (t + 1)
     cut_high t l m =
         rw (powers.unit k a b, powers.width k a b)
         (table.bound_high nodes t (rw (powers.least k a b) at l) (rw (powers.most k a b) at m))
@@ -71,25 +68,25 @@ module _ (a b k : ℕ) where
       to : t < 2 ^ (2 * k + (b + 1))
       to = rw (longer k b) (cut_range (2 * k + b) n X least below).1
 
-      padded_low : 2 ^ (n + 2 * k + 1) * Q < reciprocal_by c t * (X * Q) + X * Q
+      padded_low : 2 ^ (n + 2 * k + 1) * Q < R c t * (X * Q) + X * Q
       padded_low =
           rw (powers.exact k a b n)
-          (rw (cut_split (2 * k + b) n X) at (core.operand_low exact_at (reciprocal_by c t) t S rest (cut_low t from to) (cut_rest (2 * k + b) n X)))
+          (rw (cut_split (2 * k + b) n X) at (core.operand_low exact_at (R c t) t S rest (cut_low t from to) (cut_rest (2 * k + b) n X)))
 
-      padded_high : reciprocal_by c t * (X * Q) < 2 ^ (n + 2 * k + 1) * Q + X * Q
+      padded_high : R c t * (X * Q) < 2 ^ (n + 2 * k + 1) * Q + X * Q
       padded_high =
           rw (powers.exact k a b n)
-          (rw (cut_split (2 * k + b) n X) at (core.operand_high exact_at t S rest (reciprocal_by c t) exact_positive (cut_high t from to) (cut_rest (2 * k + b) n X)))
+          (rw (cut_split (2 * k + b) n X) at (core.operand_high exact_at t S rest (R c t) exact_positive (cut_high t from to) (cut_rest (2 * k + b) n X)))
 
-      pub operand_low : 2 ^ (n + 2 * k + 1) < reciprocal_by c t * X + X
+      pub operand_low : 2 ^ (n + 2 * k + 1) < R c t * X + X
       operand_low = lt_of_mul-lt-mul_right Q (omega (arith, padded_low))
 
-      pub operand_high : reciprocal_by c t * X < 2 ^ (n + 2 * k + 1) + X
+      pub operand_high : R c t * X < 2 ^ (n + 2 * k + 1) + X
       operand_high = lt_of_mul-lt-mul_right Q (omega (arith, padded_high))
 
 -- the nodes of document 01's construction with a table guard bits keep the laws
-pub rounded-up : (a b k : ℕ) → 2 ≤ a → 3 ≤ b → Table (2 ^ a) (2 ^ b) (2 ^ k) (λ (j : ℕ). rounded_up (2 ^ (3 * k + (a + 1))) (2 ^ k + j)) (λ (j : ℕ). 1) (λ (j : ℕ). 2 ^ a - 1)
-rounded-up a b k units steps =
+pub rounded-up : (k a b : ℕ) → 2 ≤ a → 3 ≤ b → Table (2 ^ a) (2 ^ b) (2 ^ k) (node k a) (λ (j : ℕ). 1) (λ (j : ℕ). 2 ^ a - 1)
+rounded-up k a b units steps =
     subst
     (λ (M : ℕ). Table (2 ^ a) (2 ^ b) (2 ^ k) (λ (j : ℕ). rounded_up M (2 ^ k + j)) (λ (j : ℕ). 1) (λ (j : ℕ). 2 ^ a - 1))
     (sym (powers.numerator k a b))
@@ -98,7 +95,7 @@ rounded-up a b k units steps =
 -- from a = 2 and b = 3 on: R of every k
 module _ (k a b : ℕ) (units : 2 ≤ a) (steps : 3 ≤ b) (n X : ℕ) (least : 2 ^ n ≤ X) (below : X < 2 ^ (n + 1)) where
   pub reciprocal_high : reciprocal k a b n X * X < 2 ^ (n + 2 * k + 1) + X
-  reciprocal_high = operand_high a b k (rounded-up a b k units steps) n X least below
+  reciprocal_high = operand_high k a b (rounded-up k a b units steps) n X least below
 
   pub reciprocal_low : 2 ^ (n + 2 * k + 1) < reciprocal k a b n X * X + X
-  reciprocal_low = operand_low a b k (rounded-up a b k units steps) n X least below
+  reciprocal_low = operand_low k a b (rounded-up k a b units steps) n X least below

@@ -1,8 +1,12 @@
 pub mod Core
 pub mod Pieces
+pub mod Steps
+pub mod Excess
 pub mod Table
 pub mod RoundedUp
+pub mod Reached
 pub mod Powers
+pub mod Neighbours
 pub mod Bound
 pub mod Cut
 pub mod Answers

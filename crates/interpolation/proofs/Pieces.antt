@@ -1,6 +1,6 @@
 -- Where a cut operand t lies: K pieces of width F, the first of them at K × F; i = t / F, j = i - K and f is the rest.
 -- Assumes nothing.
-use mathlib.Core.Path.{◌≡◌, ap, ◌∙◌}
+use mathlib.Core.Path.{◌≡◌, sym, ap, ◌∙◌}
 use Prim.Native.Nat.{ℕ, ◌+◌, ◌-◌, ◌*◌, ◌/◌, ◌%◌, ◌≤◌, ◌<◌}
 use native.Mathlib.Nat.{mod-lt, div-add-mod', le-div_iff_mul-le, div-lt_iff_lt-mul}
 use native.Mathlib.Omega.{arith}
@@ -29,6 +29,18 @@ module _ (K F t : ℕ) (wide : 0 < F) (least : K * F ≤ t) (most : t < 2 * K * 
   -- t = i × F + f
   pub parts : (K + (t / F - K)) * F + t % F ≡ t
   parts = ap (λ (i : ℕ). i * F + t % F) index_number ∙ div-add-mod' t F
+
+-- where t + 1 lies: beside t in its piece, or at the start of the next one
+module _ (F t : ℕ) (wide : 0 < F) where
+  next_at : (q r : ℕ) → q * F + r ≡ t + 1 → r < F → ((t + 1) / F ≡ q) × ((t + 1) % F ≡ r)
+  next_at q r e l =
+      (ap (λ (x : ℕ). x / F) (sym e) ∙ digits_div q {m = F} {r = r} l, ap (λ (x : ℕ). x % F) (sym e) ∙ digits_mod q {m = F} {r = r} l)
+
+  pub next_inside : t % F + 1 < F → ((t + 1) / F ≡ t / F) × ((t + 1) % F ≡ t % F + 1)
+  next_inside l = next_at (t / F) (t % F + 1) (omega (arith, div-add-mod' t F)) l
+
+  pub next_across : t % F + 1 ≡ F → ((t + 1) / F ≡ t / F + 1) × ((t + 1) % F ≡ 0)
+  next_across e = next_at (t / F + 1) 0 (omega (arith, div-add-mod' t F, e)) wide
 
 -- the last of q + 1 pieces of width F, at its last place
 module _ (q F t : ℕ) (wide : 0 < F) (last : t + 1 ≡ (q + 1) * F) where

@@ -1,11 +1,16 @@
--- The numbers of a table with a table guard bits and b input guard bits, as powers of two.
+-- The numbers of a table with a table guard bits and b input guard bits, as powers of two, and R by any nodes.
 -- Assumes nothing.
 use mathlib.Core.Path.{◌≡◌, sym, ap, ◌∙◌}
-use Prim.Native.Nat.{ℕ, ◌+◌, ◌-◌, ◌*◌, ◌^◌}
+use Prim.Native.Nat.{ℕ, ◌+◌, ◌-◌, ◌*◌, ◌/◌, ◌^◌}
 use native.Mathlib.Omega.{arith}
 use lib.Pow.{pow-add}
+use Rattle.interpolation.proofs.Steps.{sum_at}
 
 module _ (k a b : ℕ) where
+  -- R of a cut operand t by the nodes c
+  abbrev pub reciprocal_by : (ℕ → ℕ) → ℕ → ℕ
+  reciprocal_by c t = sum_at (2 ^ k) (2 ^ (k + b)) c t / 2 ^ (k + (a + b))
+
   -- F, the width of a piece
   pub width : 2 ^ (k + b) ≡ 2 ^ b * 2 ^ k
   width = omega (arith, pow-add 2 k b)

@@ -9,22 +9,21 @@ use native.Mathlib.Omega.{arith}
 use Rattle.interpolation.specs.Algorithm.{sum_over}
 use Rattle.interpolation.proofs.Core as core
 use Rattle.interpolation.proofs.Pieces as pieces
+use Rattle.interpolation.proofs.Steps.{Steady, sum_at, reciprocal_at, ulp_positive}
+use Rattle.interpolation.proofs.Excess.{numerator_of, Exceeds, steady}
 
--- what is divided to give a node
-abbrev pub numerator_of : ℕ → ℕ → ℕ
-numerator_of A K = 2 * A * (K * K * K)
-
--- node c(j) belongs to i = K + j; `room` says that the excess E of a piece leaves enough of an ulp
+-- `room` says that the excess E of a piece leaves enough of an ulp
 pub record Table (A B K : ℕ) (c E D : ℕ → ℕ) : Type 0 where
   pub units : 0 < A
   pub steps : 0 < B
   pub some : 0 < K
-  pub falls : (j : ℕ) → j < K → c (j + 1) ≤ c j
-  pub above : (j : ℕ) → j ≤ K → numerator_of A K ≤ c j * (K + j)
-  pub left : (j : ℕ) → j < K → c j * (K + j) ≤ numerator_of A K + E j * (K + j)
-  pub right : (j : ℕ) → j < K → c (j + 1) * (K + j + 1) ≤ numerator_of A K + E j * (K + j + 1)
+  pub nodes : Exceeds A K c E
   pub excess : (j : ℕ) → j < K → E j + D j ≡ A
   pub room : (j : ℕ) → j < K → A * B * (K * K * K) + 4 * A * (K * K) * (K + j + 1) ≤ 2 * D j * B * ((K + j) * (K + j) * (K + j + 1))
+
+-- what the steps of R need of the nodes follows
+pub table_steady : {A B K : ℕ} {c E D : ℕ → ℕ} → Table A B K c E D → Steady A K c
+table_steady table = steady table.nodes (λ j h. omega (arith, table.excess j h))
 
 -- P without its subtraction
 sum_more : (c' d f g : ℕ) → (c' + d) * (f + g) - d * f ≡ (c' + d) * g + c' * f
@@ -67,17 +66,17 @@ module _ {A B K : ℕ} {c E D : ℕ → ℕ} (table : Table A B K c E D) (t : �
   f = t % (B * K)
 
   -- P and R of t
-  abbrev pub product_sum_at : ℕ
-  product_sum_at = sum_over (B * K) (c j) (c (j + 1)) f
+  abbrev P : ℕ
+  P = sum_at K (B * K) c t
 
-  abbrev pub reciprocal_at : ℕ
-  reciprocal_at = product_sum_at / (A * (B * K))
+  abbrev R : ℕ
+  R = reciprocal_at A B K c t
 
   wide : 0 < B * K
   wide = mul-pos table.steps table.some
 
   unit : 0 < A * (B * K)
-  unit = mul-pos table.units wide
+  unit = ulp_positive table.units table.steps table.some
 
   below : j < K
   below = pieces.number_below K (B * K) t wide least most
@@ -85,27 +84,27 @@ module _ {A B K : ℕ} {c E D : ℕ → ℕ} (table : Table A B K c E D) (t : �
   whole : f + (B * K - f) ≡ B * K
   whole = omega (arith, pieces.rest_below K (B * K) t wide least most)
 
-  sum : product_sum_at ≡ c j * (B * K - f) + c (j + 1) * f
-  sum = sum_parts (c j) (c (j + 1)) (B * K) f (table.falls j below) (omega (arith, pieces.rest_below K (B * K) t wide least most))
+  sum : P ≡ c j * (B * K - f) + c (j + 1) * f
+  sum = sum_parts (c j) (c (j + 1)) (B * K) f ((table_steady table).falls j below) (omega (arith, pieces.rest_below K (B * K) t wide least most))
 
   -- no t is 0
   positive : 0 < t
   positive = omega (arith, mul-pos table.some wide)
 
   -- R is within an ulp from below: N < (R + 1) × t
-  pub bound_low : 2 * B * (K * K * K * K) < (reciprocal_at + 1) * t
+  pub bound_low : 2 * B * (K * K * K * K) < (R + 1) * t
   bound_low =
-      core.chopped_low (2 * B * (K * K * K * K)) (A * (B * K)) product_sum_at reciprocal_at t positive
-      (omega (arith, lt-div-mul-add {a = product_sum_at} unit))
+      core.chopped_low (2 * B * (K * K * K * K)) (A * (B * K)) P R t positive
+      (omega (arith, lt-div-mul-add {a = P} unit))
       (rw (exact A B K)
-      (low_at (numerator_of A K) (K + j) (c j) (c (j + 1)) (B * K) f (B * K - f) t product_sum_at whole (pieces.parts K (B * K) t wide least most) sum
-      (omega (arith, table.some)) (table.above j (le_of_lt below)) (rw add_assoc (table.above (j + 1) (omega (arith, below))))))
+      (low_at (numerator_of A K) (K + j) (c j) (c (j + 1)) (B * K) f (B * K - f) t P whole (pieces.parts K (B * K) t wide least most) sum
+      (omega (arith, table.some)) (table.nodes.above j (le_of_lt below)) (rw add_assoc (table.nodes.above (j + 1) (omega (arith, below))))))
 
   -- and from above: R × (t + 1) ≤ N + (t + 1)
-  pub bound_high : reciprocal_at * (t + 1) ≤ 2 * B * (K * K * K * K) + (t + 1)
+  pub bound_high : R * (t + 1) ≤ 2 * B * (K * K * K * K) + (t + 1)
   bound_high =
-      core.chopped_high (2 * B * (K * K * K * K)) (A * (B * K)) product_sum_at reciprocal_at t unit
-      (div-mul-le_self product_sum_at (A * (B * K)))
+      core.chopped_high (2 * B * (K * K * K * K)) (A * (B * K)) P R t unit
+      (div-mul-le_self P (A * (B * K)))
       (rw (exact A B K)
-      (rw (table.excess j below) at (high_at (numerator_of A K) (K + j) (c j) (c (j + 1)) (E j) (D j) (B * K) f (B * K - f) t product_sum_at whole (pieces.parts K (B * K) t wide least most) sum
-      (omega (arith, table.some)) (table.left j below) (table.right j below) (room_at A B K (D j) (K + j) (table.room j below)))))
+      (rw (table.excess j below) at (high_at (numerator_of A K) (K + j) (c j) (c (j + 1)) (E j) (D j) (B * K) f (B * K - f) t P whole (pieces.parts K (B * K) t wide least most) sum
+      (omega (arith, table.some)) (table.nodes.left j below) (table.nodes.right j below) (room_at A B K (D j) (K + j) (table.room j below)))))

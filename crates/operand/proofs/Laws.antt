@@ -3,7 +3,7 @@
 use mathlib.Core.Path.{◌≡◌, sym, ap, ◌∙◌}
 use mathlib.Core.Bool.{true, and-eq-true_iff}
 use Prim.Native.Nat.{ℕ, zero, suc, ◌+◌, ◌-◌, ◌*◌, ◌/◌, ◌%◌, ◌^◌, ◌≤◌, ◌<◌}
-use native.Mathlib.Nat.{mod-lt, mul-one, mul_assoc, div-one, div-eq_of_lt-le}
+use native.Mathlib.Nat.{mod-lt, mul-le-mul_right, div-mul-le_self, le-div_iff_mul-le, mul-one, mul_assoc, div-one, div-eq_of_lt-le}
 use native.Mathlib.Omega.{arith}
 use lib.Dec.{eqb, leb, ltb}
 use lib.Pow.{pow-add, pow_pos, split, shl-shr, shr-shr, high, field}
@@ -108,6 +108,11 @@ module _ (s n : ℕ) where
       let more : q + 1 ≡ 2 ^ (s + 1) = omega (arith, pow_pos (s + 1)) in
       let end : X ≡ q * S + (S - 1) = omega (arith, whole, ap (λ (x : ℕ). x * S) more, pow_pos (n - s)) in
       omega (arith, cut_long enough X ∙ ap (λ (x : ℕ). x / S) end ∙ high q (n - s) (omega (arith, pow_pos (n - s))), more)
+
+-- a greater operand is cut to no smaller one
+pub cut_ordered : (s n : ℕ) {X X' : ℕ} → X ≤ X' → cut_to s n X ≤ cut_to s n X'
+cut_ordered s n {X} {X'} h =
+    (le-div_iff_mul-le (pow_pos (n - s))).1 (omega (arith, div-mul-le_self (X * 2 ^ (s - n)) (2 ^ (n - s)), mul-le-mul_right (2 ^ (s - n)) h))
 
 -- the instance of a table: t has 2k + b fraction bits, and is normalised where the operand is
 pub cut_normalised : (k b n X : ℕ) → 2 ^ n ≤ X → X < 2 ^ (n + 1) → (2 ^ (2 * k + b) ≤ cut_operand k b n X) × (cut_operand k b n X < 2 ^ (2 * k + (b + 1)))
