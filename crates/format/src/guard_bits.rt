@@ -40,6 +40,7 @@ impl GuardBits {
         ensures value { result ≡ are_usual self }
         ensures usual { GuardBits.USUAL ≡ guard_bits 2 3 }
     {
+        // Both numbers as one of 64 bits, input × 2^32 + table, which is 3 × 2^32 + 2 for three and two: one comparison and not two.
         (self.table as u64) + (self.input as u64) * 4294967296 == 12884901890
     }
 }

@@ -140,15 +140,15 @@ module _ (F : Format) (s : List ℕ) where
 
   -- under 7 it is the lowest byte with a one behind the last word: it has one, and every bit from there on before that byte is zero
   pub check_place_7 : (check_outcome F s).number ≡ 7
-      → IsSetPast F s (check_outcome F s).place × ((b : ℕ) → word_count F * word_width F ≤ b → b < 8 * (check_outcome F s).place → bit_at s b ≡ 0)
+      → IsSetPast F s (check_outcome F s).place × ((bit : ℕ) → word_count F * word_width F ≤ bit → bit < 8 * (check_outcome F s).place → bit_at s bit ≡ 0)
   check_place_7 e = set_place F s e
 
   -- a filling bit that is one, a bit behind the last word in the image, counts at the image's last byte
-  pub check_place_filling : (check_outcome F s).number ≡ 7 → (b : ℕ) → word_count F * word_width F ≤ b → b < 8 * image_length F → bit_at s b ≡ 1 → (check_outcome F s).place ≡ image_length F - 1
+  pub check_place_filling : (check_outcome F s).number ≡ 7 → (bit : ℕ) → word_count F * word_width F ≤ bit → bit < 8 * image_length F → bit_at s bit ≡ 1 → (check_outcome F s).place ≡ image_length F - 1
   check_place_filling = filling_place F s
 
   -- where none is, the place is the lowest byte past the image that is not zero
-  pub check_place_byte : Bytes s → (check_outcome F s).number ≡ 7 → ((b : ℕ) → word_count F * word_width F ≤ b → b < 8 * image_length F → bit_at s b ≡ 0)
+  pub check_place_byte : Bytes s → (check_outcome F s).number ≡ 7 → ((bit : ℕ) → word_count F * word_width F ≤ bit → bit < 8 * image_length F → bit_at s bit ≡ 0)
       → ((image_length F ≤ (check_outcome F s).place) × ((check_outcome F s).place < length s) × (get_or s (check_outcome F s).place 0 ≡ 0 → ⊥)) × ((i : ℕ) → image_length F ≤ i → i < (check_outcome F s).place → get_or s i 0 ≡ 0)
   check_place_byte = byte_place F s
 

@@ -273,7 +273,7 @@ module _ (F : Format) (p : IsOffered F) where
   -- the image
   pub check_passes_words : (s : List ℕ) → Bytes s → IsLongEnough F s
       → ((check_outcome F s).number ≡ 0)
-      ↔ (((j : ℕ) → j < word_count F → word_of F s j ≡ right_word F.form (precision_of F) (table_bits F) j) × ((b : ℕ) → word_count F * word_width F ≤ b → b < 8 * image_length F → bit_at s b ≡ 0) × ((i : ℕ) → image_length F ≤ i → i < length s → get_or s i 0 ≡ 0))
+      ↔ (((j : ℕ) → j < word_count F → word_of F s j ≡ right_word F.form (precision_of F) (table_bits F) j) × ((bit : ℕ) → word_count F * word_width F ≤ bit → bit < 8 * image_length F → bit_at s bit ≡ 0) × ((i : ℕ) → image_length F ≤ i → i < length s → get_or s i 0 ≡ 0))
   check_passes_words s b l = joined (words_and_tail s l) (joined (both same (zero_parts F s b l)) row3)
 
   -- and the buffer passes exactly when it is the image and then zeros
@@ -282,13 +282,13 @@ module _ (F : Format) (p : IsOffered F) where
 
 -- The bytes of an image, for every k and a with which a word has bits.
 module _ (F : Format) (some : 1 ≤ word_width F) where
-  -- most significant bit first, with no padding: bit b of word j is bit j × w + b of the image
-  pub image_bit : (j b : ℕ) → j < word_count F → b < word_width F → bit_at (image F) (j * word_width F + b) ≡ bit_of_word (word_width F) (right_word F.form (precision_of F) (table_bits F) j) b
-  image_bit j b h l = Built.image_bits F some j b h l
+  -- most significant bit first, with no padding: bit q of word j is bit j × w + q of the image
+  pub image_bit : (j q : ℕ) → j < word_count F → q < word_width F → bit_at (image F) (j * word_width F + q) ≡ bit_of_word (word_width F) (right_word F.form (precision_of F) (table_bits F) j) q
+  image_bit j q h l = Built.image_bits F some j q h l
 
   -- the words and the filling bits are right exactly when the first bytes are the image
   pub words_right_bytes : (s : List ℕ) → Bytes s → IsLongEnough F s
-      → (((j : ℕ) → j < word_count F → word_of F s j ≡ right_word F.form (precision_of F) (table_bits F) j) × ((b : ℕ) → word_count F * word_width F ≤ b → b < 8 * image_length F → bit_at s b ≡ 0)) ↔ (take (image_length F) s ≡ image F)
+      → (((j : ℕ) → j < word_count F → word_of F s j ≡ right_word F.form (precision_of F) (table_bits F) j) × ((bit : ℕ) → word_count F * word_width F ≤ bit → bit < 8 * image_length F → bit_at s bit ≡ 0)) ↔ (take (image_length F) s ≡ image F)
   words_right_bytes s b l = Built.right_is_image F s some b l
 
 -- R does not depend on the form: from a plain image and a full one of the same precision and guard bits, both built, whatever their buffers held before and
@@ -377,14 +377,14 @@ module _ (F : Format) (s : List ℕ) (n X : ℕ) (p : IsOffered F) (l : IsLongEn
   pub upper_word_named_at_0 : f (precision_of F) (input_bits F) n X ≡ 0 → IsRightAt F s (j (precision_of F) (input_bits F) n X) → j (precision_of F) (input_bits F) n X + 1 < word_count F → (IsRightAt F s (j (precision_of F) (input_bits F) n X + 1) → ⊥) → reciprocal_outcome F s n X ≡ record { number = 6; place = j (precision_of F) (input_bits F) n X + 1; value = 0 }
   upper_word_named_at_0 e = upper_word_named
 
--- The word at j of any bytes, whoever wrote them: a number of w bits, and bit b of it is bit j × w + b of the buffer, the most
+-- The word at j of any bytes, whoever wrote them: a number of w bits, and bit q of it is bit j × w + q of the buffer, the most
 -- significant bit of a word and of a byte being bit 0.
 module _ (F : Format) (s : List ℕ) (j : ℕ) where
   pub word_below : word_of F s j < 2 ^ word_width F
   word_below = word_lt (word_width F) s j
 
-  pub word_bit : Bytes s → (b : ℕ) → b < word_width F → bit_of_word (word_width F) (word_of F s j) b ≡ bit_at s (j * word_width F + b)
-  word_bit bytes b = bit-of-word (word_width F) s j b bytes
+  pub word_bit : Bytes s → (q : ℕ) → q < word_width F → bit_of_word (word_width F) (word_of F s j) q ≡ bit_at s (j * word_width F + q)
+  word_bit bytes q = bit-of-word (word_width F) s j q bytes
 
 -- The word of node j stands in its own bytes.
 pub word_by_its_bytes : (F : Format) (s s' : List ℕ) (j : ℕ) → 1 ≤ word_width F → ((i : ℕ) → j * word_width F / 8 ≤ i → i ≤ (j * word_width F + word_width F - 1) / 8 → get_or s i 0 ≡ get_or s' i 0) → word_of F s j ≡ word_of F s' j

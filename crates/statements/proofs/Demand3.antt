@@ -18,7 +18,8 @@
 --    zeros_answer. A written bit that is not zero can change R: written_bit_counts. All but the last are of every X, normalised or not.
 --
 -- Beside the demand: R runs from 2^(2k) to 2^(2k+1) at every n: reciprocal_from, reciprocal_to. The least operand reaches the upper end at every
--- n, the greatest the lower at the latest from n = 2k + b on: reciprocal_of_least, reciprocal_of_greatest. The sizes of document 002's Lemma 1:
+-- n, the greatest the lower at the latest from n = 2k + b on: reciprocal_of_least, reciprocal_of_greatest. How far neighbours lie apart:
+-- proofs/Neighbours.antt. The sizes of document 002's Lemma 1:
 -- node_difference, fraction_below, product_below. That no number of the algorithms overflows 64 bits up to k = 12, a = 4 and b = 5, where P and its products have at
 -- most 47: first_product_below, product_sum_below, most_bits; first_product_fits, second_product_fits, product_sum_fits; and, where nodes are made and
 -- words judged, numerator_fits, judged_product_fits.

@@ -1,4 +1,4 @@
--- The set examples of document 01 that are marked P, those of document 02 for Q-2 and Q-7, ours for Q-1, Q-2, Q-7 and Q-14, and the printed table hold of
+-- The set examples of document 01 that are marked P, those of document 02 for Q-2 and Q-7, ours for Q-1, Q-2, Q-5, Q-7 and Q-14, and the printed table hold of
 -- the definitions that the contracts cite: one statement for all tables, by computation.
 -- Assumes nothing.
 use mathlib.Core.Path.{refl}
@@ -8,7 +8,7 @@ use Rattle.bools.specs.Lowest.{lowest}
 use Rattle.decimal.specs.Decimal.{digits, decimal}
 use Rattle.lines.specs.Lines.{line_reading, field}
 use Rattle.table_text.specs.TableText.{precision_of, line, lines, header, table_of, table_text}
-use Rattle.statements.specs.Examples.{length_examples, LengthHolds, image_examples, ImageHolds, rom_examples, RomHolds, fault_examples, FaultHolds, dirty_examples, DirtyHolds, reciprocal_examples, ReciprocalHolds, refused_examples, RefusedHolds, limit_examples, LimitHolds, text_examples, TextHolds, Each, ExamplesHold}
+use Rattle.statements.specs.Examples.{length_examples, LengthHolds, image_examples, ImageHolds, rom_examples, RomHolds, fault_examples, FaultHolds, dirty_examples, DirtyHolds, reciprocal_examples, ReciprocalHolds, step_examples, StepHolds, refused_examples, RefusedHolds, limit_examples, LimitHolds, text_examples, TextHolds, Each, ExamplesHold}
 
 -- a row and those after it
 infixr 4 ◌also◌
@@ -90,6 +90,18 @@ reciprocals_hold =
     also record { is_R = refl; given = refl; is_P = tt }
     also tt
 
+steps_hold : Each StepHolds step_examples
+unfolding rounded_up
+steps_hold =
+    record { is_R = refl; is_next = refl; largest = refl }
+    also record { is_R = refl; is_next = refl; largest = refl }
+    also record { is_R = refl; is_next = refl; largest = refl }
+    also record { is_R = refl; is_next = refl; largest = refl }
+    also record { is_R = refl; is_next = refl; largest = refl }
+    also record { is_R = refl; is_next = refl; largest = refl }
+    also record { is_R = refl; is_next = refl; largest = refl }
+    also tt
+
 refusals_hold : Each RefusedHolds refused_examples
 unfolding rounded_up word_at field_at
 refusals_hold = refl also refl also refl also refl also refl also refl also refl also tt
@@ -115,4 +127,4 @@ unfolding precision_of line_reading digits decimal rounded_up field line lines h
 texts_hold = refl also refl also refl also tt
 
 pub examples_hold : ExamplesHold
-examples_hold = record { lengths = lengths_hold; images = images_hold; roms = roms_hold; faults = faults_hold; dirty = dirty_hold; reciprocals = reciprocals_hold; refusals = refusals_hold; limits = limits_hold; texts = texts_hold }
+examples_hold = record { lengths = lengths_hold; images = images_hold; roms = roms_hold; faults = faults_hold; dirty = dirty_hold; reciprocals = reciprocals_hold; steps = steps_hold; refusals = refusals_hold; limits = limits_hold; texts = texts_hold }

@@ -16,7 +16,8 @@
 --    node_place_0, reciprocal_place_0, there too.
 -- 6. b plays no part in an image, nor in what the builder, the check and the reading of it answer, but that it must be in its range: image_for_any_b,
 --    length_for_any_b, build_for_any_b, leaves_for_any_b, check_for_any_b, node_for_any_b, part_for_any_b, part_place_for_any_b.
--- 7. The bound for general a and b: Demand3. The old product is the case a = 2 and b = 3: proofs/Usual.antt.
+-- 7. The bound for general a and b: Demand3. The steps of neighbours, at most d / 2^(b-1) rounded up: proofs/Neighbours.antt. The old product is the case a = 2
+--    and b = 3: proofs/Usual.antt.
 use mathlib.Core.Path.{◌≡◌, refl}
 use mathlib.Core.Bool.{true}
 use mathlib.Core.List.{List}

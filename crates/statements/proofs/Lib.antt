@@ -5,6 +5,7 @@ pub mod Plain
 pub mod Full
 pub mod Usual
 pub mod Guards
+pub mod Neighbours
 pub mod Printed
 pub mod Examples
 pub mod Iff

@@ -244,6 +244,10 @@ module _ (F : Format) (s : List ℕ) (n X : ℕ) where
       let t = reciprocal_0.0 e in
       ap (λ (a : Outcome). a.value) (gives t.0 t.1 t.2 t.3 t.4 t.5)
 
+  -- and guard bits and operand are in their ranges then
+  pub given_in_range : (reciprocal_outcome F s n X).number ≡ 0 → AreGuardBits a b × IsNormalised n X
+  given_in_range e = let t = reciprocal_0.0 e in (t.0.1, t.3)
+
   -- and has what R has for all guard bits and every operand in range
   pub given_has : (reciprocal_outcome F s n X).number ≡ 0 → (Q : ℕ → Type 0) → (AreGuardBits a b → 2 ^ n ≤ X → X < 2 ^ (n + 1) → Q (reciprocal k a b n X)) → Q (reciprocal_outcome F s n X).value
   given_has e Q holds = let t = reciprocal_0.0 e in rw (given_right e) (holds t.0.1 t.3.0 t.3.1)

@@ -1,14 +1,15 @@
--- The set examples of document 01 that are marked P, those of document 02 for Q-2 and Q-7, ours for Q-1, Q-2, Q-7 and Q-14, and the printed table, as
+-- The set examples of document 01 that are marked P, those of document 02 for Q-2 and Q-7, ours for Q-1, Q-2, Q-5, Q-7 and Q-14, and the printed table, as
 -- literals, and what each says of the definitions that the contracts cite.
 -- Assumes nothing.
-use Rattle.std.specs.Prelude.{◌≡◌, ◌-◌, List, [], ◌∷◌, ◌++◌, map, ℕ, zero, suc, length, replicate}
+use Rattle.std.specs.Prelude.{◌≡◌, ◌+◌, ◌-◌, ◌^◌, List, [], ◌∷◌, ◌++◌, map, ℕ, zero, suc, length, replicate}
+use Rattle.quotient.specs.Quotient.{rounded_up}
 use Rattle.format.specs.Format.{precision_of, table_bits, input_bits, asked, plain_of, full_of, image_length}
 use Rattle.format.specs.declared.Form.TheVariants.{Plain, Full}
 use Rattle.format.specs.declared.Format.{Format}
 use Rattle.answers.specs.Refusal.{Outcome, served}
 use Rattle.image.specs.Calls.{build_outcome, build_leaves, check_outcome, node_outcome, shown_part}
 use Rattle.operand.specs.Operand.{cut_operand}
-use Rattle.interpolation.specs.Algorithm.{cut_product_sum}
+use Rattle.interpolation.specs.Algorithm.{cut_product_sum, cut_reciprocal}
 use Rattle.interpolation.specs.Reciprocal.{reciprocal}
 use Rattle.interpolation.specs.Calls.{reciprocal_outcome}
 use Rattle.table_text.specs.TableText.{table_text}
@@ -250,6 +251,34 @@ pub record ReciprocalHolds (e : ReciprocalExample) : Type 0 where
   pub given : reciprocal_outcome e.from.F e.from.bytes e.n e.X ≡ served e.R
   pub is_P : Each (λ (P : ℕ). cut_product_sum (precision_of e.from.F) (table_bits e.from.F) (input_bits e.from.F) (cut_operand (precision_of e.from.F) (input_bits e.from.F) e.n e.X) ≡ P) e.P
 
+-- a step from t to t + d that is as large as a step of d can be, and R of both
+pub record StepExample : Type 0 where
+  pub k : ℕ
+  pub a : ℕ
+  pub b : ℕ
+  pub t : ℕ
+  pub d : ℕ
+  pub R : ℕ
+  pub next : ℕ
+
+-- the first three lie inside a piece; the others lead across a node, or onto it, at 576, 320, 1152 and 2304
+abbrev pub step_examples : List StepExample
+step_examples =
+    record { k = 2; a = 2; b = 3; t = 128; d = 1; R = 32; next = 31 }
+    ∷ record { k = 3; a = 2; b = 3; t = 512; d = 4; R = 128; next = 127 }
+    ∷ record { k = 3; a = 2; b = 3; t = 512; d = 5; R = 128; next = 126 }
+    ∷ record { k = 3; a = 2; b = 3; t = 571; d = 6; R = 115; next = 113 }
+    ∷ record { k = 2; a = 2; b = 4; t = 307; d = 13; R = 27; next = 25 }
+    ∷ record { k = 3; a = 3; b = 4; t = 1141; d = 11; R = 115; next = 113 }
+    ∷ record { k = 3; a = 4; b = 5; t = 2282; d = 22; R = 115; next = 113 }
+    ∷ []
+
+-- both are R, and they differ by d / 2^(b-1) rounded up
+pub record StepHolds (e : StepExample) : Type 0 where
+  pub is_R : cut_reciprocal e.k e.a e.b e.t ≡ e.R
+  pub is_next : cut_reciprocal e.k e.a e.b (e.t + e.d) ≡ e.next
+  pub largest : e.R - e.next ≡ rounded_up e.d (2 ^ (e.b - 1))
+
 -- an operand that is turned back from an image above, and by which number
 pub record RefusedExample : Type 0 where
   pub from : ImageExample
@@ -347,6 +376,7 @@ pub record ExamplesHold : Type 0 where
   pub faults : Each FaultHolds fault_examples
   pub dirty : Each DirtyHolds dirty_examples
   pub reciprocals : Each ReciprocalHolds reciprocal_examples
+  pub steps : Each StepHolds step_examples
   pub refusals : Each RefusedHolds refused_examples
   pub limits : Each LimitHolds limit_examples
   pub texts : Each TextHolds text_examples

@@ -4,7 +4,7 @@
 -- the bits of one, 2k + a plain and 2k + a + 2 full; `image_length F` the bytes that these words take, the last one filled with zero bits. `plain_of k` and
 -- `full_of k` are the two formats of precision k with a = 2 and b = 3 (proofs/Plain.antt and proofs/Full.antt have all of this in numbers).
 -- Assumes nothing.
-use Rattle.std.specs.Prelude.{◌≡◌, List, ℕ, ◌+◌, ◌*◌, ◌/◌, ◌%◌, ◌^◌, ◌≤◌, ◌<◌, length}
+use Rattle.std.specs.Prelude.{◌≡◌, List, ℕ, ◌+◌, ◌-◌, ◌*◌, ◌/◌, ◌%◌, ◌^◌, ◌≤◌, ◌<◌, length}
 use Rattle.format.specs.Format.{precision_of, table_bits, input_bits, word_count, word_width, image_length}
 use Rattle.format.specs.declared.Form.{Form}
 use Rattle.format.specs.declared.Form.TheVariants.{Plain, Full}
@@ -38,13 +38,13 @@ right_word Full k a j = node k a j
 abbrev pub IsRightAt : Format → List ℕ → ℕ → Type 0
 IsRightAt F s j = word_of F s j ≡ right_word F.form (precision_of F) (table_bits F) j
 
--- byte i of a buffer has a one behind the last word: one of its bits from there on, bit b of the buffer, is one
+-- byte i of a buffer has a one behind the last word: one of the buffer's bits from there on that stand in it is one
 abbrev pub IsSetPast : Format → List ℕ → ℕ → Type 0
-IsSetPast F s i = (i < length s) × ((b : ℕ) × (word_count F * word_width F ≤ b) × (b / 8 ≡ i) × (bit_at s b ≡ 1))
+IsSetPast F s i = (i < length s) × ((bit : ℕ) × (word_count F * word_width F ≤ bit) × (bit / 8 ≡ i) × (bit_at s bit ≡ 1))
 
 -- nothing stands behind the last word of a buffer: each bit there is zero, whether it fills the image's last byte or stands past the image
 abbrev pub IsTailZero : Format → List ℕ → Type 0
-IsTailZero F s = (b : ℕ) → word_count F * word_width F ≤ b → b < 8 * length s → bit_at s b ≡ 0
+IsTailZero F s = (bit : ℕ) → word_count F * word_width F ≤ bit → bit < 8 * length s → bit_at s bit ≡ 0
 
 -- n is from 1 to 63
 abbrev pub IsFractionCount : ℕ → Type 0
@@ -53,3 +53,11 @@ IsFractionCount n = (1 ≤ n) × (n ≤ 63)
 -- X is normalised: from 2^n to 2^(n+1) - 1
 abbrev pub IsNormalised : ℕ → ℕ → Type 0
 IsNormalised n X = (2 ^ n ≤ X) × (X < 2 ^ (n + 1))
+
+-- t is a cut operand: it has 2k + b fraction bits behind its leading one
+abbrev pub IsCutOperand : ℕ → ℕ → ℕ → Type 0
+IsCutOperand k b t = (2 ^ (2 * k + b) ≤ t) × (t < 2 ^ (2 * k + (b + 1)))
+
+-- how far two numbers lie apart: one of the two differences stops at 0
+abbrev pub apart : ℕ → ℕ → ℕ
+apart x y = (x - y) + (y - x)
