@@ -1,5 +1,6 @@
 """Tests of the programs: what they print is compared with what reference.py writes."""
 import functools
+import itertools
 import math
 import pathlib
 import random
@@ -176,6 +177,11 @@ def less_than_an_ulp():
     return None if enough else f"only {len(given)} are given, {short} of short operands, {full} by full words, {each}"
 
 
+def cut_operand(k, n, x, b):
+    """An operand's first 2k + b fraction bits, with its leading one; zeros stand for those that it does not have."""
+    return math.floor(Fraction(x, 2 ** n) * 2 ** (2 * k + b))
+
+
 def bits_to_the_right():
     """Operands whose first 2k + b fraction bits are the same, zeros standing for those that a short one does not have, get the same answer
     from the same bytes, refusals included."""
@@ -183,8 +189,7 @@ def bits_to_the_right():
     for changed, table, k, n, x, *answer in reciprocals(printed()):
         b = table[-1]
         if not reference.first_of_format(k, *table[1:]) and reference.LEAST_BITS <= n <= reference.MOST_BITS:
-            begins = math.floor(Fraction(x, 2 ** n) * 2 ** (2 * k + b))
-            found.setdefault((changed, table, k, begins), {}).setdefault(tuple(answer), set()).add(n)
+            found.setdefault((changed, table, k, cut_operand(k, n, x, b)), {}).setdefault(tuple(answer), set()).add(n)
     for (_, table, k, begins), answers in found.items():
         if len(answers) > 1:
             return f"precision {k}, {table}, operands that begin with the bits {begins:b}: {answers}"
@@ -199,6 +204,30 @@ def bits_to_the_right():
         }
         bad += [f"{which} with {b} input guard bits: {numbers}" for which, numbers in several.items() if numbers != {0, 5, 6}]
     return f"operands of several lengths get only the numbers of {bad}" if bad else None
+
+
+def steps_of_neighbours():
+    """Any two reciprocals that the program gives at one precision with the same guard bits, whatever images and lengths of operands they come from:
+    that of the larger cut operand is not larger, and where the cut operands differ by d it is less by at most d / 2^(b-1), rounded up. With all
+    guard bits so large a step, of more than one ulp, is met: from the least operand, across a node, by two forms and by two lengths."""
+    given = {}  # by precision and guard bits: each cut operand with R, and the forms and lengths with which it is given
+    for _, (full, a, b), k, n, x, number, _, value in reciprocals(printed()):
+        if number == 0:
+            given.setdefault((k, a, b), {}).setdefault((cut_operand(k, n, x, b), value), set()).add((full, n))
+    met = Counter()
+    for (k, a, b), found in given.items():
+        for ((t, r), ways), ((after, other), other_ways) in itertools.combinations(sorted(found.items()), 2):
+            step, d = r - other, after - t
+            if step < 0 or (step - 1) * 2 ** (b - 1) >= d:
+                return f"precision {k}, guard bits {a} and {b}: {r} at the cut operand {t}, {other} at {after}"
+            if step > 1 and step * 2 ** (b - 1) >= d:
+                met[a, b, "from the least"] += t == 2 ** (2 * k + b)
+                met[a, b, "across a node"] += t // 2 ** (k + b) < after // 2 ** (k + b) and after % 2 ** (k + b) != 0
+                met[a, b, "two forms"] += len({full for full, _ in ways | other_ways}) == 2
+                met[a, b, "two lengths"] += len({n for _, n in ways | other_ways}) > 1
+    kinds = ("from the least", "across a node", "two forms", "two lengths")
+    few = [(a, b, kind) for a, b in script.GUARD_BITS for kind in kinds if not met[a, b, kind]]
+    return f"not met were {few}" if few else None
 
 
 def bound_table():
@@ -298,11 +327,11 @@ def document_examples():
 
 
 def document_cases(output):
-    """tests/document01.txt has the cases of document 01 for reciprocals and those of Q-2, Q-7 and Q-14, as `cases` must print them, and says where
+    """tests/document01.txt has the cases of document 01 for reciprocals and those of Q-2, Q-5, Q-7 and Q-14, as `cases` must print them, and says where
     their answers are from. It must be printed as it stands, with no line between and none after its last case."""
     document = (ROOT / "tests" / "document01.txt").read_bytes()
     cases = re.findall(rb"^#.*\n(?!#)", document, re.M)
-    if len(cases) != 80:
+    if len(cases) != 91:
         return f"there are {len(cases)} cases"
     below = output.split(script.MARK.encode(), 1)[1]
     return same(below[:len(document) + 1], document + b"#")
@@ -465,8 +494,8 @@ def one_command():
 
 def tests():
     yield "document 01: the examples and limits of the image, those of Q-2, Q-7 and Q-14, and P of 135, by the reference", document_examples
-    yield "document 01: its cases for reciprocals and those of Q-2, Q-7 and Q-14, by the reference", lambda: document_cases(expected())
-    yield "document 01: its cases for reciprocals and those of Q-2, Q-7 and Q-14, by the program", lambda: document_cases(printed())
+    yield "document 01: its cases for reciprocals and those of Q-2, Q-5, Q-7 and Q-14, by the reference", lambda: document_cases(expected())
+    yield "document 01: its cases for reciprocals and those of Q-2, Q-5, Q-7 and Q-14, by the program", lambda: document_cases(printed())
     yield "document 01: the printed table of precision 2, by the reference", document_table
     yield "cases: the stored script below its mark is what tests/script.py writes", stored_script
     yield "cases: the stored output is what the reference writes", stored_output
@@ -475,6 +504,7 @@ def tests():
         yield f"cases: 400 random lines, seed {seed}", lambda seed=seed: random_scripts(seed)
     yield "cases: each reciprocal given is less than an ulp off", less_than_an_ulp
     yield "cases: operands with the same first 2k + b fraction bits get the same answer", bits_to_the_right
+    yield "cases: steps of neighbours, between any two reciprocals at one precision with the same guard bits", steps_of_neighbours
     yield "cases: a bound table gives what the calls on its image give", bound_table
     yield "Table 1 of document 002: the reference", table1_reference
     yield "Table 1 of document 002: the program", table1_program

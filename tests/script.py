@@ -1,7 +1,7 @@
 #!/usr/bin/env python3
-"""Writes the cases for reciprocals, full ROMs, full words and other guard bits in crates/cases/stdin, the script of the program `cases`, whose commands
-crates/cases/src/main.rt describes. What stands down to the mark is kept, and is changed there. Below it come the cases of tests/document01.txt, without
-their answers, and those that are made here.
+"""Writes the cases for reciprocals, full ROMs, full words, other guard bits and steps of neighbours in crates/cases/stdin, the script of the program
+`cases`, whose commands crates/cases/src/main.rt describes. What stands down to the mark is kept, and is changed there. Below it come the cases of
+tests/document01.txt, without their answers, and those that are made here.
 
     python3 tests/script.py
     python3 tests/reference.py cases <crates/cases/stdin >crates/cases/stdout
@@ -756,10 +756,40 @@ def guard_bit_refusals():
             yield around(2, n, 2 ** n, 2, 2 ** n, *table)
 
 
+# ---- steps of neighbours
+
+def across_a_node(k, a, b):
+    """Two cut operands, the one before node 1 and the other behind it, as far apart as possible where R falls by all that it may from the one to the
+    other, d / 2^(b-1) rounded up, and no farther from the node than 2^k, or 64."""
+    node, most = 2 ** (2 * k + b) + 2 ** (k + b), min(2 ** k, 64)
+    given = {t: reference.reciprocal(k, 2 * k + b, t, a, b) for t in range(node - most, node + most + 1)}
+    found = [(after - t, t, after) for t in range(node - most, node) for after in range(node + 1, node + most + 1)
+             if (given[t] - given[after]) * 2 ** (b - 1) >= after - t > 2 ** (b - 1)]
+    return max(found)[1:]
+
+
+def neighbours():
+    yield "# Steps of neighbours, by plain words and by full ones: from the least operand, where R falls by all that it may over each distance below 2^k, and"
+    yield "# across a node; by full words from an operand of one fraction bit, and to operands with ones to the right, too"
+    for a, b in GUARD_BITS:
+        for k in (b, 12 - a % 2):
+            n = 2 * k + b
+            least, (t, after) = 2 ** n, across_a_node(k, a, b)
+            for table in ((PLAIN, a, b), (FULL, a, b)):
+                yield from image(k, 0, *table)
+                yield invert(k, n, least, 2, 2 ** (b - 1) + 1, *table)
+                yield invert(k, n, least + 2 ** k - 2, 2, 1, *table)
+                yield invert(k, n, t, 2, after - t, *table)
+                if table[0]:
+                    yield invert(k, 1, 2, 1, 0, *table)
+                    yield invert(k, 63, (least + 2 ** k) * 2 ** (63 - n) - 1, 1, 0, *table)
+                    yield invert(k, n + 2, t * 4 + 3, 2, (after - t) * 4, *table)
+
+
 PARTS = [document01, table2, every_operand, spread, single_precision, bits_to_the_right, wrong_words, each_bit, wrong_neighbours,
          last_piece, full_roms, limits, order, formats, full_words, full_operands, wrong_full_words, each_full_bit, last_full_word,
          filling_bits, full_refusals, guard_bit_sizes, guard_bit_images, guard_bit_operands, told_apart, guard_bits_to_the_right,
-         guard_bit_changes, guard_bit_tails, guard_bit_refusals]
+         guard_bit_changes, guard_bit_tails, guard_bit_refusals, neighbours]
 
 
 def script():

@@ -171,7 +171,7 @@ fn piece(k: u32, n: u32, x: u64) -> usize {
 }
 
 /// The operand counted in 1 / 2^(2k+b), and what is left over dropped: the table looks at no other bits.
-fn cut(format: Format, n: u32, x: u64) -> u128 {
+pub fn cut(format: Format, n: u32, x: u64) -> u128 {
     u128::from(x) * power(kept(format)) / power(n)
 }
 

@@ -13,6 +13,7 @@ mod images;
 mod independent;
 mod lent;
 mod library;
+mod neighbours;
 mod operands;
 mod random;
 mod refusals;
@@ -44,6 +45,12 @@ fn rarer(format: Format) -> usize {
         0 => 1,
         _ => 5,
     }
+}
+
+/// Those of some formats whose precision is not above this one.
+fn up_to(greatest: u32, mut formats: Vec<Format>) -> Vec<Format> {
+    formats.retain(|format| format.precision <= greatest);
+    formats
 }
 
 /// Guard bits that stand in the two halves of a register, served ones and others, some of which are served in fewer bits.
@@ -95,6 +102,9 @@ impl Parts<'_> {
         self.part("every short operand", || short::every_one(Bytes, GREATEST));
         self.part("bits to the right of short operands", || short::to_the_right(Bytes, GREATEST));
         self.part("limits of operands", || short::limits(Bytes, plain.clone()));
+        self.part("steps of cut operands", || neighbours::cut_operands(Bytes, &plain));
+        self.part("steps from the least operand", || neighbours::from_the_least(Bytes, &plain));
+        self.part("steps of operands of any length", || neighbours::of_any_length(Bytes, &plain, 256));
         self.part("image lengths", images::lengths);
         self.part("constant nodes", images::constant_nodes);
         self.part("images built", || images::built(Bytes, &formats, &shifts));
@@ -118,6 +128,9 @@ impl Parts<'_> {
         self.part("short operands with other guard bits", short::other_ones);
         self.part("bits to the right of short operands with other guard bits", short::others_to_the_right);
         self.part("limits of operands with other guard bits", || short::limits(Bytes, other_plain()));
+        self.part("steps of cut operands with other guard bits", || neighbours::cut_operands(Bytes, &up_to(8, other_plain())));
+        self.part("steps from the least operand with other guard bits", || neighbours::from_the_least(Bytes, &other_plain()));
+        self.part("steps of operands of any length with other guard bits", || neighbours::of_any_length(Bytes, &other_plain(), 256));
         self.part("image lengths with other guard bits", images::other_lengths);
         self.part("images built with other guard bits", || images::built(Bytes, &others, &[0, 1, 7, 12]));
         self.part("images read with other guard bits", || images::read(Bytes, &others, &[0, 3, 13]));
@@ -136,13 +149,16 @@ impl Parts<'_> {
 
     fn memory(&self) {
         let formats: Vec<Format> = formats().into_iter().chain(A_FEW).collect();
-        let plain = precisions().map(Format::plain).chain(A_FEW.into_iter().filter(|format| format.form == 0)).collect();
+        let plain: Vec<Format> = precisions().map(Format::plain).chain(A_FEW.into_iter().filter(|format| format.form == 0)).collect();
         self.part("blocks not written to", || unwritten::built(&formats));
         self.part("images built", || images::built(Watched, &formats, &[0]));
         self.part("images read", || images::read(Watched, &formats, &[0]));
         self.part("every short operand", || short::every_one(Watched, 4));
         self.part("bits to the right of short operands", || short::to_the_right(Watched, 3));
-        self.part("limits of operands", || short::limits(Watched, plain));
+        self.part("limits of operands", || short::limits(Watched, plain.clone()));
+        self.part("steps of cut operands", || neighbours::cut_operands(Watched, &up_to(3, plain.clone())));
+        self.part("steps from the least operand", || neighbours::from_the_least(Watched, &up_to(8, plain.clone())));
+        self.part("steps of operands of any length", || neighbours::of_any_length(Watched, &plain, 1));
         self.part("one bit changed", || damage::one_bit(Watched, &formats, |format| 1 << format.precision));
         self.part("two bits changed", || damage::two_bits(Watched, &formats, 1, |_| 10));
         self.part("any content", || damage::any_content(Watched, &formats, |_| 1));

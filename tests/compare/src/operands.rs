@@ -23,7 +23,7 @@ fn an_ulp_off(format: Format, n: u32, x: u64, r: u64) -> String {
 
 /// What the library answers, and what it does through a bound table.
 #[inline(always)]
-fn answered(format: Format, lent: Lent, n: u32, x: u64) -> [Answer; 2] {
+pub fn answered(format: Format, lent: Lent, n: u32, x: u64) -> [Answer; 2] {
     [library::reciprocal(format, lent, n, x), library::bound_reciprocal(format, lent, n, x)]
 }
 
