@@ -14,8 +14,11 @@ from archives import archive  # noqa: E402
 PROGRAM = ROOT / "target" / "accuracy" / "measure"
 PARTS = 2 ** 32  # lengths are printed in these parts of the distance from one cut operand to the next
 
-# What is measured of a table. An error is (over, under): over / under ulps, found at X = under with 2k + b fraction bits.
-Measured = namedtuple("Measured", "k a b operands sum below above limit exact nearest length edges")
+# What is measured of a table. An error is (over, under): over / under ulps, found at X = under with 2k + b fraction bits. Of steps there is a list.
+Measured = namedtuple("Measured", "k a b operands sum below above limit exact nearest length edges steps")
+
+# The steps of d: the largest, the first t with it, and the least. All three are None where no two cut operands lie so far apart.
+Steps = namedtuple("Steps", "d largest at least")
 
 
 def command(*words):
@@ -32,12 +35,15 @@ def program():
 
 
 def lines(*words):
-    done = subprocess.run([program(), *words], stdin=subprocess.DEVNULL, stdout=subprocess.PIPE, text=True, check=True)
+    done = subprocess.run([program(), *words], stdin=subprocess.DEVNULL, capture_output=True, text=True)
+    assert done.returncode == 0, done.stderr.strip() or f"the measuring program ended with status {done.returncode}"
     return [line.split(" ") for line in done.stdout.splitlines()]
 
 
-def number(text):
-    """A whole number, or the pair of an error."""
+def figure(text):
+    """A whole number, the pair of an error, or a list of Steps."""
+    if "," in text:
+        return [Steps(*map(int, one.split("/"))) if "none" not in one else Steps(int(one.split("/")[0]), None, None, None) for one in text.split(",")]
     return tuple(map(int, text.split("/"))) if "/" in text else int(text)
 
 
@@ -46,7 +52,7 @@ def measured(*words):
     """A Measured for each precision, over all its cut operands, with 2 and 3 guard bits; where a precision is named, for each choice of them at it."""
     names, *rows = lines(*map(str, words))
     assert tuple(names) == Measured._fields, f"the columns are {names}"
-    return [Measured(*map(number, row)) for row in rows]
+    return [Measured(*map(figure, row)) for row in rows]
 
 
 @functools.cache

@@ -56,6 +56,26 @@ def shares(row, *beside):
     return [row.operands, percent(*measuring.share(row)), *beside, compensated(row) or "–", percent(*[Fraction(row.nearest, row.operands)] * 2)]
 
 
+def step_limit(row, d):
+    """What no step of d is above: d / 2^(b-1), rounded up."""
+    return -(-d // 2 ** (row.b - 1))
+
+
+def step_heads(rows, piece):
+    """The d at which steps are measured, as heads of columns. The last is a whole piece, which has another length in another table."""
+    first, *others = [[step.d for step in row.steps[:-1]] for row in rows]
+    assert all(other == first for other in others), f"steps are measured at {[first, *others]}"
+    return [f"d = {first[0]}", *first[1:], piece]
+
+
+def largest_steps(row):
+    return [step.largest if step.largest is not None else "–" for step in row.steps]
+
+
+def largest_of_limits(row):
+    return [f"{step.largest} of {step_limit(row, step.d)}" for step in row.steps]
+
+
 def table(head, rows):
     lines = [head, ["---:"] * len(head), *rows]
     return "".join("| " + " | ".join(map(str, line)) + " |\n" for line in lines)
@@ -73,7 +93,13 @@ def tables():
             + f"\nErrors in ulps at k = {GUARDED}, by table guard bits a and input guard bits b:\n\n"
             + table(["a, b", *of_errors], [[f"{row.a}, {row.b}", *errors(row)] for row in guarded])
             + f"\nNearest results in percent at k = {GUARDED}:\n\n"
-            + table(["a, b", *of_shares], [[f"{row.a}, {row.b}", *shares(row)] for row in guarded]))
+            + table(["a, b", *of_shares], [[f"{row.a}, {row.b}", *shares(row)] for row in guarded])
+            + "\nLargest steps of d in ulps, with two table guard bits and three input guard bits; the first row is the limit, d / 4 rounded up:\n\n"
+            + table(["k", *step_heads(usual, "2^(k+3)")],
+                    [["limit", *[step_limit(usual[0], step.d) for step in usual[0].steps[:-1]], "2^(k+1)"],
+                     *[[row.k, *largest_steps(row)] for row in usual]])
+            + f"\nLargest steps of d in ulps at k = {GUARDED}, each beside its limit, d / 2^(b-1) rounded up:\n\n"
+            + table(["a, b", *step_heads(guarded, f"2^({GUARDED}+b)")], [[f"{row.a}, {row.b}", *largest_of_limits(row)] for row in guarded]))
 
 
 def page(text):

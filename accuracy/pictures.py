@@ -211,6 +211,46 @@ def guard_bits_picture(k):
     return plot.svg()
 
 
+def staircase_picture(k, inside, across):
+    """R over the first two pieces, the exact reciprocal and the lines between the nodes. Of two pairs t, t + d one lies inside a piece and one across
+    the node."""
+    nodes, points = measuring.sweep(k)
+    given = dict(points)
+    piece = 2 ** (k + 3)
+    start, node, end = (points[0][0] + j * piece for j in range(3))
+    low, high = given[end] - 1, given[start] + 3
+    fives = [y for y in range(low, given[start]) if y % 5 == 0]
+    plot = Plot(f"R over the first two pieces, k = {k}", (start, end), (low, high), 640)
+
+    for y in fives:
+        plot.level(y, PALE, 1)
+    plot.line([(node, low), (node, high)], GREY, 1.5, "2 4")
+    plot.line([(t, start * given[start] / t) for t in between(start, end, 256)], ORANGE, 1.5)
+    plot.line([(start + j * piece, nodes[j] / 4) for j in range(3)], GREEN, 1.5, "6 4")  # four table units are an ulp
+    plot.line([(t, ulps) for first, last, ulps in runs(points) if first < end for t in (first, min(last + 1, end))], BLUE, 2.5)
+    for j in range(3):
+        plot.dot(start + j * piece, nodes[j] / 4, GREEN, "#ffffff")
+    for t, d, where in ((*inside, "inside a piece"), (*across, "across the node")):
+        assert (t < node < t + d) == (where == "across the node"), f"{t} and {t + d} do not lie {where}"
+        plot.line([(t, given[t]), (t + d, given[t]), (t + d, given[t + d])], INK, 1.5)
+        for end_of_step in (t, t + d):
+            plot.dot(end_of_step, given[end_of_step], INK, INK, 3.5)
+        left, top = plot.place(t + d, given[t])
+        plot.text(left + 10, top - 21, f"t = {t} and {t + d}: R = {given[t]} and {given[t + d]}", "start", size=14)
+        plot.text(left + 10, top - 3, f"{where}, the step of {d} is {given[t] - given[t + d]}", "start", size=14)
+
+    plot.ticks([(t, t) for t in range(start, end + 1, piece // 4)], [(y, y) for y in fives])
+    plot.names("the cut operand t", f"ulps of 1/{2 ** (2 * k + 1)}")
+    plot.sample(0, 0, "R", BLUE)
+    plot.sample(0, 1, "R at t, t + d", INK, INK)
+    plot.sample(200, 0, "the exact reciprocal", ORANGE)
+    plot.sample(200, 1, "the line between nodes, before it is chopped", GREEN, dashes="6 4")
+    plot.sample(640, 0, "a node, rounded up", GREEN, "#ffffff")
+    plot.sample(640, 1, "where pieces meet", GREY, dashes="2 4")
+    return plot.svg()
+
+
 def pictures():
     """Each picture by its name."""
-    return {"error-k2.svg": error_picture(2), "shares.svg": shares_picture(), "guard-bits.svg": guard_bits_picture(page.GUARDED)}
+    return {"error-k2.svg": error_picture(2), "shares.svg": shares_picture(), "guard-bits.svg": guard_bits_picture(page.GUARDED),
+            "staircase-k3.svg": staircase_picture(3, (512, 5), (571, 6))}

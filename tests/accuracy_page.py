@@ -3,6 +3,7 @@ import math
 import re
 import sys
 from fractions import Fraction
+from itertools import zip_longest
 
 import reference
 from programs import ROOT, same
@@ -12,6 +13,8 @@ sys.path.insert(0, str(ROOT / "accuracy"))
 import measuring  # noqa: E402
 import page  # noqa: E402
 import pictures  # noqa: E402
+
+DISTANCES = [*range(1, 10), 16, 100]  # steps of these d are measured, and of a whole piece, 2^(k+b)
 
 
 def tables_are_measured():
@@ -27,6 +30,13 @@ def pictures_are_drawn():
     return next((f"{name}, {why}" for name, svg in drawn.items() if (why := same((pictures.FOLDER / name).read_text(), svg))), None)
 
 
+def steps_by_fractions(given, d):
+    """The Steps of d among these reciprocals, by their cut operands."""
+    found = [(given[t] - given[t + d], t) for t in given if t + d in given]
+    largest = max(found, default=(None,))[0]
+    return measuring.Steps(d, largest, min((t for step, t in found if step == largest), default=None), min(found, default=(None,))[0])
+
+
 def by_fractions(k, a=2, b=3):
     """What is measured of a table, from the reference's reciprocals; the share of all operands in place of its length, and no edges."""
     n = 2 * k + b
@@ -40,7 +50,12 @@ def by_fractions(k, a=2, b=3):
     length = sum(max(0, min(t + 1, exact[2 ** n] * 2 ** n / (given[t] - half)) - max(t, exact[2 ** n] * 2 ** n / (given[t] + half)))
                  for t in given)
     return measuring.Measured(k, a, b, len(given), sum(given.values()), below, above, limit, sum(given[t] == exact[t] for t in given), nearest,
-                              length / len(given), None)
+                              length / len(given), None, [steps_by_fractions(given, d) for d in (*DISTANCES, 2 ** (k + b))])
+
+
+def step_limit(d, b=3):
+    """What no step of d is above."""
+    return math.ceil(Fraction(d, 2 ** (b - 1)))
 
 
 def fractions_differ(found):
@@ -49,8 +64,10 @@ def fractions_differ(found):
     errors = {name: (Fraction(*getattr(found, name)), -getattr(found, name)[1]) for name in ("below", "above", "limit")}
     low, high = measuring.share(found)
     bad = [name for name, pair in errors.items() if pair != getattr(expected, name)]
-    bad += [name for name in ("operands", "sum", "exact", "nearest") if getattr(found, name) != getattr(expected, name)]
+    bad += [name for name in ("operands", "sum", "exact", "nearest", "steps") if getattr(found, name) != getattr(expected, name)]
     bad += [] if low < expected.length < high and high - low < Fraction(1, 10 ** 8) else ["length"]
+    bad += [f"the limit of steps of {step.d}" for step in expected.steps
+            if step.largest is not None and not 0 <= step.least <= step.largest <= step_limit(step.d, found.b)]
     return f"{bad}: found {found}, expected {expected}" if bad else None
 
 
@@ -79,16 +96,59 @@ def page_by_fractions(k):
     expected = by_fractions(k)
     mean = Fraction(math.fsum(reference.reciprocal(k, 2 * k + 3, t) - 2 ** (4 * k + 4) * math.log1p(1 / t)
                               for t in range(expected.operands, 2 * expected.operands))) / expected.operands
-    below, above, limit, _, lean, operands, of_all, _, _, of_cut = digits(k)
+    below, above, limit, _, lean, operands, of_all, _, _, of_cut, *steps = digits(k)
     pairs = [(below, expected.below[0], 6), (above, expected.above[0], 6), (limit, expected.limit[0], 6), (lean, mean, 4),
              (operands, expected.operands, 0), (of_all, 100 * expected.length, 3), (of_cut, 100 * Fraction(expected.nearest, expected.operands), 3)]
     bad = [f"{float(found)} for {float(exact)}" for found, exact, places in pairs if abs(found - exact) * 10 ** places > Fraction(1, 2)]
+    if steps != [step.largest for step in expected.steps]:
+        bad.append(f"steps {list(map(str, steps))} for {expected.steps}")
+    return "; ".join(bad) or None
+
+
+def rows_below(head):
+    """The cells of each row of the table on the page that has these heads."""
+    _, _, below = page.PAGE.read_text().partition("| " + " | ".join(head) + " |\n")
+    lines = below.partition("\n\n")[0].splitlines()[1:]
+    return [line.strip("| ").split(" | ") for line in lines]
+
+
+def from_the_least(k, d, a=2, b=3):
+    """The step of d from the least operand, None where no two cut operands lie so far apart. Where d is below 2^k it is the limit."""
+    n = 2 * k + b
+    if d >= 2 ** n:
+        return None
+    step = reference.reciprocal(k, n, 2 ** n, a, b) - reference.reciprocal(k, n, 2 ** n + d, a, b)
+    assert 0 <= step <= step_limit(d, b) and (d >= 2 ** k or step == step_limit(d, b)), f"k = {k}, a = {a}, b = {b}, d = {d}: {step}"
+    return step
+
+
+def steps_from_the_least():
+    """At every precision, and at k = 8 with each choice of guard bits, the largest step of each d is that from the least operand. On the page it stands with
+    its limit."""
+    rows = [*measuring.measured(), *measuring.measured(8)]
+    for row in rows:
+        distances = [*DISTANCES, 2 ** (row.k + row.b)]
+        found = [step[:3] for step in row.steps]
+        steps = [from_the_least(row.k, d, row.a, row.b) for d in distances]
+        expected = [(d, step, 2 ** (2 * row.k + row.b) if step is not None else None) for d, step in zip(distances, steps)]
+        if found != expected:
+            return f"k = {row.k}, a = {row.a}, b = {row.b}: found {found}, expected {expected}"
+
+    heads = ["d = 1", *map(str, DISTANCES[1:])]
+    by_k = [["limit", *[str(step_limit(d)) for d in DISTANCES], "2^(k+1)"]]
+    for k in range(1, 13):
+        by_k.append([str(k), *[str(step) if (step := from_the_least(k, d)) is not None else "–" for d in (*DISTANCES, 2 ** (k + 3))]])
+    by_bits = [[f"{a}, {b}", *[f"{from_the_least(8, d, a, b)} of {step_limit(d, b)}" for d in (*DISTANCES, 2 ** (8 + b))]]
+               for a in (2, 3, 4) for b in (3, 4, 5)]
+    tables = (rows_below(["k", *heads, "2^(k+3)"]), by_k), (rows_below(["a, b", *heads, "2^(8+b)"]), by_bits)
+    bad = [f"found {row}, expected {right}" for found, expected in tables for row, right in zip_longest(found, expected) if row != right]
     return "; ".join(bad) or None
 
 
 def tests():
     yield "accuracy: the tables on the page are what is measured now, over all cut operands", tables_are_measured
     yield "accuracy: the pictures are what is drawn now", pictures_are_drawn
+    yield "accuracy: the largest steps are those from the least operand, and stand on the page with their limits", steps_from_the_least
     for k in range(1, 5):
         yield f"accuracy: what is measured at precision {k} is what fractions give", lambda k=k: measured_by_fractions(k)
         yield f"accuracy: the page's figures of precision {k} are what fractions give", lambda k=k: page_by_fractions(k)
