@@ -164,7 +164,10 @@ yildegga_part yildegga_word_bytes(yildegga_format format, const uint8_t *image, 
 
 /* The reciprocal of x with n fraction bits, from 2^(2k) to 2^(2k+1) ulps, by the nodes on both sides of x, whose words are judged: all
    of them in the full form, all but that of node 2^k in the plain one.
-   The first 2k + b fraction bits decide it, and those that x lacks count as zeros.
+   The first 2k + b fraction bits decide it, and those that x lacks count as zeros: x with just so many, cut or padded, is the cut operand.
+   With the same k, a and b: at equal n a larger x never has a larger reciprocal; where the cut operands of two x differ by d, their
+   reciprocals differ by at most d / 2^(b-1) ulps, rounded up, which is d / 4 with three input guard bits, at different n too. Both are
+   so across nodes, and whatever images, in either form, the two come from.
    Refusals: 1, 18, 2, 4, 5, 6. */
 yildegga_reciprocal_given yildegga_reciprocal(yildegga_format format, const uint8_t *image, size_t length, uint32_t n, uint64_t x);
 
