@@ -12,7 +12,7 @@ NO_PART = {".git", "target", "out", "__pycache__"}
 MAY_NAME = {"docs/SCOPE.md", "docs/DECISIONS.md"}  # these say which documents are meant
 ELSEWHERE = re.compile(r"\.\./sha[r]ed|01-sco[p]e|02-change-requ[e]sts|proof-no[t]es|90-rat[t]le")  # with classes, so as not to find itself
 FOR_CALLERS = ["yildegga", "yildegga_bound", "precision", "building", "checking", "reading", "inverting", "binding", "table_text"]
-PAGES = ["Demand1", "Demand2", "Demand3", "Usual", "Plain", "Full", "Guards", "Printed", "Examples"]
+PAGES = ["Demand1", "Demand2", "Demand3", "Usual", "Plain", "Full", "Guards", "Neighbours", "Printed", "Examples"]
 
 
 # ---- the first page
