@@ -145,10 +145,26 @@ def steps_from_the_least():
     return "; ".join(bad) or None
 
 
+def least_steps():
+    """The sentence of the page on the least steps is what is measured, at every k; at k = 1 no two cut operands are 100 apart."""
+    least = {(row.k, "piece" if step.d == 2 ** (row.k + row.b) else step.d): step.least for row in measuring.measured() for step in row.steps}
+    hundred = [least[k, 100] for k in range(2, 13)]
+    alike = (all(found == 0 for (_, d), found in least.items() if d != "piece" and d <= 9)
+             and all(found == 1 for (_, d), found in least.items() if d == 16)
+             and all(found == 2 ** (k - 1) for (k, d), found in least.items() if d == "piece")
+             and least[1, 100] is None and set(hundred[2:]) == {hundred[2]})
+    if not alike:
+        return f"measured are {least}"
+    sentence = ("The least steps found at b = 3 are 0 for d up to 9, 1 for 16 and 2^(k-1) for a whole piece; for 100 they are "
+                f"{hundred[0]} at k = 2, {hundred[1]} at k = 3 and {hundred[2]} from k = 4 on.")
+    return None if sentence in " ".join(page.PAGE.read_text().split()) else f"the page does not say: {sentence}"
+
+
 def tests():
     yield "accuracy: the tables on the page are what is measured now, over all cut operands", tables_are_measured
     yield "accuracy: the pictures are what is drawn now", pictures_are_drawn
     yield "accuracy: the largest steps are those from the least operand, and stand on the page with their limits", steps_from_the_least
+    yield "accuracy: the least steps are those that the page names", least_steps
     for k in range(1, 5):
         yield f"accuracy: what is measured at precision {k} is what fractions give", lambda k=k: measured_by_fractions(k)
         yield f"accuracy: the page's figures of precision {k} are what fractions give", lambda k=k: page_by_fractions(k)

@@ -9,6 +9,7 @@ import tempfile
 ROOT = pathlib.Path(__file__).resolve().parent.parent
 CRATES = ROOT / "crates"
 CONTRACTS = ROOT / "docs" / "CONTRACTS.md"
+UNITS = ROOT / "tests" / "units"
 CLAUSE = re.compile(r"\b(?:(?:requires|ensures)\*?\s*\w*|ghost\b[^{}]*)\s*$")  # what stands before the brace of a clause
 OPEN = re.compile(r"^\s*(?:#\[[^\]]*\]\s*)*pub (?:const )?(?:extern \"C\" )?fn (\w+)")
 
@@ -50,13 +51,13 @@ def trial(name):
                 todo += crates[crate]
                 texts_of(crate, room)
         (room / "crates" / "trial" / "src").mkdir(parents=True)
-        shutil.copy(ROOT / "tests" / "units" / f"{name}.txt", room / "crates" / "trial" / "src" / "main.rt")
+        shutil.copy(UNITS / f"{name}.txt", room / "crates" / "trial" / "src" / "main.rt")
         (room / "crates.txt").write_text("".join(f"{crate}: {' '.join(below)}\n" for crate, below in crates.items()))
         return rt("check", cwd=room / "crates" / "trial")
 
 
 def code_lines(name):
-    lines = (ROOT / "tests" / "units" / f"{name}.txt").read_text().splitlines()
+    lines = (UNITS / f"{name}.txt").read_text().splitlines()
     return [line for line in lines if not line.startswith("//")]
 
 
@@ -88,20 +89,26 @@ def crates_listed():
 
 
 def formatted():
-    """In a copy, `rt fmt` leaves every file as it is."""
+    """In a copy, `rt fmt` leaves every file as it is, the programs of tests/units too."""
     bad = []
     with tempfile.TemporaryDirectory() as folder:
         room = pathlib.Path(folder)
         shutil.copy(ROOT / "crates.txt", room)
         for crate in listed():
             texts_of(crate, room)
-        for crate in listed():
+        programs = room / "crates" / "of_units" / "src"
+        programs.mkdir(parents=True)
+        for path in UNITS.glob("*.txt"):
+            shutil.copy(path, programs / f"{path.stem}.rt")
+        for crate in [*listed(), "of_units"]:
             done = rt("fmt", cwd=room / "crates" / crate)
             if done.returncode:
                 bad.append(f"{crate}: {done.stdout[-200:]}")
-        copied = sorted(path for path in (room / "crates").rglob("*") if path.is_file() and path.suffix in (".rt", ".antt"))
-        bad += [str(path.relative_to(room)) for path in copied if path.read_bytes() != (ROOT / path.relative_to(room)).read_bytes()]
-    return "; ".join(bad) or (None if copied else "there is no file")
+        copied = {path: ROOT / path.relative_to(room) for path in sorted((room / "crates").rglob("*")) if path.suffix in (".rt", ".antt")}
+        copied.update((path, UNITS / f"{path.stem}.txt") for path in programs.glob("*.rt"))
+        bad += [str(own.relative_to(ROOT)) for path, own in copied.items() if path.read_bytes() != own.read_bytes()]
+        empty = not any(programs.iterdir()) or len(copied) <= len(listed())
+    return "; ".join(bad) or ("files are missing" if empty else None)
 
 
 def to_the_body(lines):

@@ -11,7 +11,7 @@ use Rattle.interpolation.proofs.Steps.{Steady}
 abbrev pub numerator_of : ℕ → ℕ → ℕ
 numerator_of A K = 2 * A * (K * K * K)
 
--- what is asked of the nodes at both ends of piece j
+-- no node is below its exact value, and those at the left and at the right end of piece j exceed theirs by at most E j
 pub record Exceeds (A K : ℕ) (c E : ℕ → ℕ) : Type 0 where
   pub above : (j : ℕ) → j ≤ K → numerator_of A K ≤ c j * (K + j)
   pub left : (j : ℕ) → j < K → c j * (K + j) ≤ numerator_of A K + E j * (K + j)

@@ -24,7 +24,7 @@ halves b some =
     let more : b ≡ b - 1 + 1 = omega (arith, some) in
     ap (λ (e : ℕ). 2 ^ e) more ∙ omega (arith, pow-add 2 (b - 1) 1)
 
--- where cut operands lie
+-- t lies where the cut operands do
 abbrev pub IsIn : ℕ → ℕ → ℕ → Type 0
 IsIn k b t = (2 ^ (2 * k + b) ≤ t) × (t < 2 ^ (2 * k + (b + 1)))
 

@@ -12,7 +12,7 @@ use Rattle.quotient.proofs.Laws.{reaches}
 use Rattle.interpolation.specs.Algorithm.{sum_over}
 use Rattle.interpolation.proofs.Pieces as pieces
 
--- what the steps need of the nodes
+-- what the steps need of the nodes: they fall, and none exceeds the next by more than 2AK
 pub record Steady (A K : ℕ) (c : ℕ → ℕ) : Type 0 where
   pub falls : (j : ℕ) → j < K → c (j + 1) ≤ c j
   pub near : (j : ℕ) → j < K → c j ≤ c (j + 1) + 2 * A * K
@@ -40,7 +40,7 @@ step_across c c' c'' F f h e =
     let w : c' + d ≡ c = omega (arith, h) in
     omega (arith, ap (λ (x : ℕ). x * F) w, ap (λ (x : ℕ). d * x) e)
 
--- no more than U whole units above give no more than U above when chopped
+-- where p is above p' by U × G at most, it is above it by U at most once both are divided by G and chopped
 chopped_more : (p p' U G : ℕ) → 0 < G → p ≤ p' + U * G → p / G ≤ p' / G + U
 chopped_more p p' U G some l =
     let below : p / G < p' / G + U + 1 = (div-lt_iff_lt-mul some).1 (omega (arith, l, lt-div-mul-add {a = p'} some)) in
