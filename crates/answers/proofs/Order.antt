@@ -74,7 +74,8 @@ shared_of : (b : Bool) (x y : Outcome) (n : ℕ) → x.number ≡ n → ((cond b
 shared_of true x y n e = (λ h. inl tt, λ u. e)
 shared_of false x y n e = (λ h. inr h, λ u. ⊎_elim (λ t. absurd t) (λ h. h) u)
 
--- where refusals after the first may have its number too, it is the answer's exactly when the first applies or those after it give it
+-- where refusals after the first may have its number too, it is the answer's exactly when the first applies or those
+-- after it give it
 pub shared : (r : Refusal) (rs : List Refusal) (v : ℕ) → ((outcome (r ∷ rs) v).number ≡ r.number) ↔ (T r.applies ⊎ ((outcome rs v).number ≡ r.number))
 shared r rs v = shared_of r.applies (turned_back r) (outcome rs v) r.number refl
 

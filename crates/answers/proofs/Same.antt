@@ -8,7 +8,8 @@ use Rattle.std.proofs.Common.{Result, Ok, Err}
 use Rattle.answers.specs.Refusal.{Outcome}
 use Rattle.answers.specs.Answer.{number_of, place_of, refused, outcome_of}
 use Rattle.answers.specs.declared.Refused.{Refused}
-use Rattle.answers.specs.declared.Refused.TheVariants.{Precision, GuardBits, Length, Node, FractionBits, Operand, Word, Tail}
+use Rattle.answers.specs.declared.Refused.TheVariants.{Precision, GuardBits, Length, Node, FractionBits, Operand}
+use Rattle.answers.specs.declared.Refused.TheVariants.{Word, Tail}
 use Rattle.answers.proofs.Earlier.{has_number}
 
 -- a reason by its number and place

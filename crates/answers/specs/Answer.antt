@@ -5,7 +5,8 @@ use Rattle.units.specs.declared.TableUnits.{TableUnits}
 use Rattle.units.specs.declared.Ulps.{Ulps}
 use Rattle.answers.specs.Refusal.{Outcome, served}
 use Rattle.answers.specs.declared.Refused.{Refused}
-use Rattle.answers.specs.declared.Refused.TheVariants.{Precision, GuardBits, Length, Node, FractionBits, Operand, Word, Tail}
+use Rattle.answers.specs.declared.Refused.TheVariants.{Precision, GuardBits, Length, Node, FractionBits, Operand}
+use Rattle.answers.specs.declared.Refused.TheVariants.{Word, Tail}
 use Rattle.answers.specs.declared.Done.{Done}
 use Rattle.answers.specs.declared.NodeRead.{NodeRead}
 use Rattle.answers.specs.declared.ReciprocalGiven.{ReciprocalGiven}

@@ -1,8 +1,8 @@
--- Refusals and their order (document 01, "Turned back, in checking order", and the requests of document 02).
+-- Refusals and their order (docs/SCOPE.md, "Turned back, in checking order").
 -- Assumes nothing.
 use Rattle.std.specs.Prelude.{ℕ, Bool, false, cond, ◌||◌, List, [], ◌∷◌, eqb}
 
--- a refusal: whether it applies, its number in the lists of documents 01 and 02, and its place
+-- a refusal: whether it applies, its number, and its place
 pub record Refusal : Type 0 where
   pub applies : Bool
   pub number : ℕ

@@ -1,12 +1,16 @@
-// What a call answers: a value, or why it is turned back. A refusal has a number and a place, and C has an answer as number, place and value.
+// What a call answers: a value, or why it is turned back. A refusal has a number and a place, and C has an answer as
+// number, place and value.
 #![tactic(auto)]
 
 ghost use Rattle.std.specs.Prelude.{◌≡◌};
-ghost use Rattle.answers.specs.Answer.{number_of, place_of, outcome_of_done, outcome_of_node, outcome_of_reciprocal, done, node_read, reciprocal_given};
+ghost use Rattle.answers.specs.Answer.{number_of, place_of};
+ghost use Rattle.answers.specs.Answer.{outcome_of_done, outcome_of_node, outcome_of_reciprocal};
+ghost use Rattle.answers.specs.Answer.{done, node_read, reciprocal_given};
 
 use units::{TableUnits, Ulps};
 
-// Why a call is turned back: the refusals 1, 18 and 2 to 7, in this order. Where a word or a byte is the reason, it is named.
+// Why a call is turned back: the refusals 1, 18 and 2 to 7, in this order. Where a word or a byte is the reason, it is
+// named.
 #[derive(Clone, Copy, PartialEq, Eq, Debug)]
 pub enum Refused {
     // The precision is below 1 or above 12.
@@ -56,9 +60,9 @@ impl Refused {
     }
 }
 
-// The answers as C has them: number 0 where the call is served, else the refusal's, with its place and the value 0. They are three structs, since what is
-// exported to C has no type parameters. Each `From` has a `match` of its own: a generic function that gives number, place and value was tried, and
-// makes the three no shorter.
+// The answers as C has them: number 0 where the call is served, else the refusal's, with its place and the value 0.
+// They are three structs: what is exported to C has no type parameters. Each `From` has a `match` of its own: a
+// generic function that gives number, place and value makes the three no shorter.
 
 // The answer of the builder and of the check, whose value is always 0.
 #[repr(C)]

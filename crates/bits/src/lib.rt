@@ -34,7 +34,8 @@ pub fn padded(x: u64, count: u32) -> u64
     x << count
 }
 
-// 2 to the power of `exponent`, 0 where it has no place in 64 bits, which no caller asks for: an Option would only be taken apart at each call.
+// 2 to the power of `exponent`, 0 where it has no place in 64 bits, which no caller asks for: an Option would only be
+// taken apart at each call.
 pub fn power(exponent: u32) -> u64
     ensures { result ≡ power_or_0 exponent }
 {

@@ -32,7 +32,8 @@ both false b t = absurd t
 pub below_or_not : (m n : ℕ) → (m < n) ⊎ (n ≤ m)
 below_or_not m n = ⊎_elim (λ t. inl (ltb-true m n t)) (λ f. inr (ltb-false m n f)) (cases (ltb m n))
 
--- what is given only where a test passes: where it is given the test has passed, and where it is not the test has failed
+-- what is given only where a test passes: where it is given the test has passed, and where it is not the test has
+-- failed
 pub given : {A : Type 0} (b : Bool) (x y : A) → Some y ≡ (if b then Some x else None) → (b ≡ true) × (y ≡ x)
 given true x y e = (refl, cc)
 given false x y e = cc

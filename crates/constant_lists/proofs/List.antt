@@ -10,7 +10,8 @@ use lib.Dec.{eqb}
 use lib.ListN.{length, get_or}
 use borrow.Author.Tests.{eqb-true}
 
--- the first entry that is not what the rule gives at its place, counted from i, with what the rule gives there; else nothing
+-- the first entry that is not what the rule gives at its place, counted from i, with what the rule gives there; else
+-- nothing
 abbrev pub miss : (ℕ → ℕ) → ℕ → List ℕ → List (ℕ × ℕ)
 miss rule i [] = []
 miss rule i (x ∷ xs) = cond (eqb x (rule i)) (miss rule (suc i) xs) ((x, rule i) ∷ [])
@@ -27,7 +28,8 @@ from rule (x ∷ xs) i t zero h = rw (add-zero i) (eqb-true x (rule i) (none _ _
 from rule (x ∷ xs) i t (suc k) h =
     rw (add-suc i k, ← suc-add i k) (from rule xs (suc i) (none (eqb x (rule i)) _ _ t).1 k (le_of_suc-le-suc h))
 
--- the entry at k, as a term that does not compute: a proof finds in it the list that the source has, and need not repeat it
+-- the entry at k, as a term that does not compute: a proof finds in it the list that the source has, and need not
+-- repeat it
 pub entry_at : List ℕ → ℕ → ℕ
 entry_at xs k = get_or xs k 0
 

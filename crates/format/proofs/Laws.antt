@@ -1,4 +1,5 @@
--- What holds of the words of every form: how wide and how many they are, and what their number says of k; and which formats are those of document 01.
+-- What holds of the words of every form: how wide and how many they are, and what their number says of k; and which
+-- formats have the usual guard bits.
 -- Assumes nothing.
 use mathlib.Core.Path.{◌≡◌, refl, sym, ap, ap₂}
 use mathlib.Core.Bool.{true}

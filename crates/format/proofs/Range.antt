@@ -40,6 +40,6 @@ module _ (g : GuardBits) where
       let both = (and-eq-true_iff (eqb g.table 2) (eqb g.input 3)).0 e in
       ap₂ guard_bits (eqb-true g.table 2 both.0) (eqb-true g.input 3 both.1)
 
--- those of document 01 are in range
+-- the usual guard bits are in range
 pub usual-in-range : InRange (guard_bits 2 3)
 usual-in-range = record { table_least = omega arith; table_most = omega arith; input_least = omega arith; input_most = omega arith }

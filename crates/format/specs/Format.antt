@@ -1,5 +1,5 @@
--- The description of the table that a call is asked for: a precision k, a form (document 02, Q-7) and guard bits a and b (Q-14); and the words and bytes that
--- its image has.
+-- The description of the table that a call is asked for: a precision k, a form and guard bits a and b; and the words
+-- and bytes that its image has.
 -- Assumes nothing.
 use Rattle.std.specs.Prelude.{ℕ, zero, suc, ◌+◌, ◌*◌, Bool, ◌&&◌, cond}
 use Rattle.packing.specs.Packing.{byte_count}
@@ -27,7 +27,7 @@ input_bits F = F.guard_bits.input
 abbrev pub asked : Form → ℕ → ℕ → ℕ → Format
 asked f k a b = record { precision = record { 0 = k }; form = f; guard_bits = guard_bits a b }
 
--- the same with two table guard bits and three input guard bits, those of document 01
+-- the same with two table guard bits and three input guard bits, the usual guard bits
 abbrev pub usual : Form → ℕ → Format
 usual f k = asked f k 2 3
 

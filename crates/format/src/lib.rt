@@ -1,5 +1,5 @@
-// The description of the table that a call is asked for: its precision, the form of its words and its guard bits; and what follows from it, the width and the
-// number of the words and the length of the image.
+// The description of the table that a call is asked for: its precision, the form of its words and its guard bits; and
+// what follows from it, the width and the number of the words and the length of the image.
 #![tactic(auto)]
 
 mod guard_bits;
@@ -8,7 +8,8 @@ ghost use Rattle.std.specs.Prelude.{◌≡◌, if◌then◌else◌};
 ghost use Rattle.precision.specs.Precision.{greatest, in_range};
 ghost use Rattle.format.specs.GuardBits.{greatest_table, least_input};
 ghost use Rattle.format.specs.declared.Form.TheVariants.{Full};
-ghost use Rattle.format.specs.Format.{usual, plain_of, full_of, asked, guarded, formed, form_of, format_of, image_length, is_offered, precision_of, word_count, word_width};
+ghost use Rattle.format.specs.Format.{asked, usual, plain_of, full_of, guarded, formed, form_of, format_of};
+ghost use Rattle.format.specs.Format.{precision_of, is_offered, word_width, word_count, image_length};
 
 pub use guard_bits::GuardBits;
 use precision::Precision;
@@ -30,8 +31,8 @@ pub struct Format {
     pub guard_bits: GuardBits,
 }
 
-// The same as C hands it over: form 0 is plain, and any other number is full. It stays a struct of plain numbers, since C has no enum of Rattle's and may
-// hand over any number.
+// The same as C hands it over: form 0 is plain, and any other number is full. It is a struct of plain numbers: C has
+// no enum of Rattle's and may hand over any number.
 #[repr(C)]
 #[derive(Clone, Copy)]
 pub struct FormatNumbers {
@@ -85,7 +86,8 @@ impl Format {
         }
     }
 
-    // The same precision and guard bits in a form. Where a call has code of its own for each form, it says so by this.
+    // The same precision and guard bits in a form. A call hands this on to its code for that form, in which the
+    // compiler then knows it.
     pub fn in_form(self, form: Form) -> Format
         ensures { result ≡ formed self form }
     {

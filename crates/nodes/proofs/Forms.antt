@@ -1,5 +1,6 @@
--- The words of the nodes in every form, and how they are decoded and judged, at every k and with any number of table guard bits. Plain words are those of `Nodes`; a full word is the node itself, which
--- is decoded and judged under no leading one.
+-- The words of the nodes in every form, and how they are decoded and judged, at every k and with any number of table
+-- guard bits. Plain words are those of `Nodes`; a full word is the node itself, which is decoded and judged under no
+-- leading one.
 -- Assumes nothing.
 use mathlib.Core.Path.{◌≡◌, refl, sym, ap, ◌∙◌}
 use mathlib.Core.Bool.{Bool, true, false, cond, not}

@@ -1,5 +1,5 @@
--- The laws of the nodes over plain numbers: K nodes have words, and H is the leading one that a word leaves out. The numerator is
--- 2 × H × K. At K = 2^k and H = 2^(2k+a) they are the laws of a table with a guard bits.
+-- The laws of the nodes over plain numbers: K nodes have words, and H is the leading one that a word leaves out. The
+-- numerator is 2 × H × K. At K = 2^k and H = 2^(2k+a) they are the laws of a table with a guard bits.
 -- Assumes nothing.
 use mathlib.Core.Path.{◌≡◌, sym, ap, ◌∙◌}
 use mathlib.Core.Bool.{true}
@@ -138,7 +138,7 @@ module _ {H K : ℕ} (shape : Shape H K) where
         lt-ltb ((H + 0) * (K + K)) (2 * H * K + (K + K)) (omega arith),
       )
 
-  -- neighbours differ by less than D, where D × K is twice the leading one (document 002, Lemma 1)
+  -- neighbours differ by less than D, where D × K is twice the leading one (Das Sarma and Matula, Lemma 1)
   pub near : (D : ℕ) → D * K ≡ 2 * H → K < D → (j : ℕ) → node_at H K j < node_at H K (j + 1) + D
   near D e l j =
       near_core D K (K + j) (node_at H K j) (node_at H K (j + 1)) (2 * H * K) l (omega arith) (ap (λ (x : ℕ). x * K) (sym e))

@@ -61,7 +61,7 @@ module _ (k a : ℕ) where
   pub node_most : (j : ℕ) → node k a j ≤ 2 ^ (2 * k + (a + 1))
   node_most j = omega (arith, node_first, node_ordered {i = 0} {j = j} (omega arith))
 
-  -- neighbours differ by less than 2^(k+a+1) (document 002, Lemma 1)
+  -- neighbours differ by less than 2^(k+a+1) (Das Sarma and Matula, Lemma 1)
   pub node_near : (j : ℕ) → node k a j < node k a (j + 1) + 2 ^ (k + (a + 1))
   node_near j =
       rw (node_is j, node_is (j + 1))

@@ -2,7 +2,7 @@
 -- Assumes nothing.
 use Rattle.std.specs.Prelude.{ℕ, ◌+◌, ◌%◌, ◌^◌, cond, Option, Some, None}
 use Rattle.units.specs.declared.TableUnits.{TableUnits}
-use Rattle.format.specs.Format.{precision_of, table_bits, word_width, word_count, is_offered}
+use Rattle.format.specs.Format.{precision_of, table_bits, word_width, word_count}
 use Rattle.format.specs.declared.Form.{Form}
 use Rattle.format.specs.declared.Form.TheVariants.{Plain, Full}
 use Rattle.format.specs.declared.Format.{Format}
@@ -22,12 +22,10 @@ quotients_of F =
     let a = table_bits F in
     record { count = word_count F; width = word_width F; numerator = numerator k a; first = 2 ^ k; lead = lead_in F.form k a }
 
--- the same, where there is such a table
-abbrev pub quotients_there : Format → Option Quotients
-quotients_there F = cond (is_offered F) (Some (quotients_of F)) None
-
--- what the word at node j of a table stands for, where a product tells that it is the quotient rounded up; of the divisor and of the value the lowest
--- 32 bits count
+-- What the word at node j of a table stands for, where a product tells that it is the quotient rounded up.
+-- Of the divisor and of the value the lowest 32 bits count.
 abbrev pub judged_word : Quotients → ℕ → ℕ → Option TableUnits
 judged_word t j word =
-    cond (rounds_up (numerator_bits t.numerator) ((t.first + j) % 2 ^ 32) (decode_under t.lead j word % 2 ^ 32)) (Some (record { 0 = decode_under t.lead j word })) None
+    cond (rounds_up (numerator_bits t.numerator) ((t.first + j) % 2 ^ 32) (decode_under t.lead j word % 2 ^ 32))
+    (Some (record { 0 = decode_under t.lead j word }))
+    None

@@ -1,5 +1,5 @@
--- The nodes, their words and how a word is decoded (document 01, "Construction of the nodes" and "The image";
--- document 002, Algorithm 1; document 02, Q-7 and Q-14), of precision k with a table guard bits.
+-- The nodes, their words and how a word is decoded, of precision k with a table guard bits
+-- (docs/SCOPE.md, "Construction of the nodes" and "The image"; Das Sarma and Matula, Algorithm 1).
 -- Assumes nothing.
 use Rattle.std.specs.Prelude.{ℕ, ◌+◌, ◌*◌, ◌%◌, ◌^◌, cond, ◌&&◌, Option, Some, None, leb, eqb}
 use Rattle.units.specs.declared.TableUnits.{TableUnits}
@@ -24,12 +24,13 @@ leading_one k a = 2 ^ word_width k a
 abbrev pub stored_word : ℕ → ℕ → ℕ → ℕ
 stored_word k a j = node k a j % leading_one k a
 
--- the value that a word stands for at node j under a leading one that is not stored, to which the word is added; but a zero word at node 0
--- means twice the leading one
+-- the value that a word stands for at node j under a leading one that is not stored, to which the word is added; but a
+-- zero word at node 0 means twice the leading one
 abbrev pub decode_under : ℕ → ℕ → ℕ → ℕ
 decode_under lead j word = cond (eqb j 0 && eqb word 0) (2 * lead) (lead + word)
 
--- the value of node j by its plain word; the last node has none, and its value is implied whatever word is given: 2^(2k+a)
+-- the value of node j by its plain word; the last node has none, and its value is implied whatever word is given, the
+-- leading one 2^(2k+a)
 abbrev pub decode : ℕ → ℕ → ℕ → ℕ → ℕ
 decode k a j word = cond (eqb j (last_node k)) (leading_one k a) (decode_under (leading_one k a) j word)
 
@@ -43,7 +44,8 @@ abbrev pub decode_in : Form → ℕ → ℕ → ℕ → ℕ → ℕ
 decode_in Plain k a j word = decode k a j word
 decode_in Full k a j word = word
 
--- c(j) with two table guard bits, as the constant list and the printed table have it, where k is a precision and j is from 0 to 2^k
+-- c(j) with two table guard bits, as the constant list and the printed table have it, where k is a precision and j is
+-- from 0 to 2^k
 abbrev pub node_in_table : ℕ → ℕ → Option TableUnits
 node_in_table k j = cond (in_range k && leb j (last_node k)) (Some (record { 0 = node k 2 j })) None
 

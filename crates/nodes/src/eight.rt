@@ -1,10 +1,10 @@
-// The nodes of precision 8 with two table guard bits, as a table.
-ghost use Rattle.std.specs.Prelude.{◌≡◌};
-ghost use Rattle.nodes.specs.Nodes.{node_in_table};
+// The nodes of precision 8 with two table guard bits, as a constant list.
+ghost use Rattle.std.specs.Prelude.{◌≡◌, ◌<◌, ℕ, length, get_or};
+ghost use Rattle.nodes.specs.Nodes.{node, node_in_table};
 
 use units::TableUnits;
 
-// c(0) to c(256) at precision 8 with two table guard bits, in table units: the product holds them as a constant table.
+// c(0) to c(256) at precision 8 with two table guard bits, in table units. Each entry is proved to be the rule's.
 pub const NODES_8: [u32; 257] = [
     524288, 522248, 520224, 518216, 516223, 514245, 512282, 510334, 508401, 506482, 504578, 502689,
     500813, 498951, 497103, 495269, 493448, 491641, 489846, 488065, 486297, 484541, 482798, 481068,
@@ -32,7 +32,9 @@ pub const NODES_8: [u32; 257] = [
 
 // Node j at precision 8 with two table guard bits, None where j is above 256.
 pub fn node_8(j: u32) -> Option<TableUnits>
-    ensures { result ≡ node_in_table 8 j }
+    ensures value { result ≡ node_in_table 8 j }
+    ensures entries { length NODES_8 ≡ 257 }
+    ensures list { (i : ℕ) → i < 257 → get_or NODES_8 i 0 ≡ node 8 2 i }
 {
     if 256 < j {
         return None;

@@ -1,4 +1,5 @@
--- The laws of an operand: when it is normalised, what it is with s fraction bits, and what bits written to its right change.
+-- The laws of an operand: when it is normalised, what it is with s fraction bits, and what bits written to its right
+-- change.
 -- Assumes nothing.
 use mathlib.Core.Path.{◌≡◌, sym, ap, ◌∙◌}
 use mathlib.Core.Bool.{true, and-eq-true_iff}
@@ -127,8 +128,8 @@ none_lost b e (suc d) h f =
     let none : b ≡ 0 = omega (arith, h, ap (λ (x : ℕ). 2 ^ x) (f (omega arith))) in
     omega (arith, ap (λ (x : ℕ). x * 2 ^ suc d) none, pow_pos e)
 
--- of m bits that are written to the right, the first s - n come to stand among the first s fraction bits, or all m where that is less. From n = s
--- on there are none; below it they are zero where b is below 2^(n+m-s)
+-- of m bits that are written to the right, the first s - n come to stand among the first s fraction bits, or all m
+-- where that is less. From n = s on there are none; below it they are zero where b is below 2^(n+m-s)
 pub all_behind : (s n m b : ℕ) → s ≤ n → b < 2 ^ m → b < 2 ^ (m - (s - n))
 all_behind s n m b enough bits =
     let all : m ≡ m - (s - n) = omega (arith, enough) in
@@ -141,7 +142,8 @@ zeros_before s n m b few zeros =
 
 -- m bits b written to the right of X
 module _ (m X b : ℕ) where
-  -- X with s fraction bits does not change where those of the m bits that come to stand among the first s, which are s - n, are zero
+  -- X with s fraction bits does not change where those of the m bits that come to stand among the first s are zero;
+  -- they are s - n
   pub cut_longer : (s n : ℕ) → b < 2 ^ (m - (s - n)) → cut_to s (n + m) (X * 2 ^ m + b) ≡ cut_to s n X
   cut_longer s n h =
       let d = s - n in

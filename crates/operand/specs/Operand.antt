@@ -1,4 +1,5 @@
--- An operand: a whole number X with n fraction bits, which stands for X / 2^n (document 01, "Quantities" and "The reciprocal"; document 02, Q-1 and Q-14).
+-- An operand: a whole number X with n fraction bits, which stands for X / 2^n
+-- (docs/SCOPE.md, "Quantities" and "The reciprocal").
 -- Assumes nothing.
 use Rattle.std.specs.Prelude.{ℕ, ◌+◌, ◌-◌, ◌*◌, ◌/◌, ◌^◌, Bool, ◌&&◌, leb, ltb}
 
@@ -17,8 +18,8 @@ is_fraction_count n = leb least_bits n && leb n most_bits
 abbrev pub is_normalised : ℕ → ℕ → Bool
 is_normalised n X = leb (2 ^ n) X && ltb X (2 ^ (n + 1))
 
--- X, which has n fraction bits, with s of them: floor(X / 2^(n-s)) where it has more, X × 2^(s-n) where it has fewer. A difference stops at 0,
--- so that one of the two powers is 1
+-- X, which has n fraction bits, with s of them: floor(X / 2^(n-s)) where it has more, X × 2^(s-n) where it has fewer. A
+-- difference stops at 0, so that one of the two powers is 1
 abbrev pub cut_to : ℕ → ℕ → ℕ → ℕ
 cut_to s n X = X * 2 ^ (s - n) / 2 ^ (n - s)
 

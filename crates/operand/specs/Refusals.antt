@@ -1,4 +1,4 @@
--- The refusals of an operand (document 01, "Turned back, in checking order"; document 02, Q-1).
+-- The refusals of an operand (docs/SCOPE.md, "Turned back, in checking order").
 -- Assumes nothing.
 use Rattle.std.specs.Prelude.{ℕ, not, List, [], ◌∷◌}
 use Rattle.answers.specs.Refusal.{Refusal}

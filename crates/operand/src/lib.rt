@@ -16,7 +16,8 @@ pub const LEAST_BITS: u32 = 1;
 // The most fraction bits of an operand: with its leading one it has 64.
 pub const MOST_BITS: u32 = 63;
 
-// An operand as it is handed over: X, and how many of its bits are fraction bits. Any two numbers can be asked for; those that keep the limits are served.
+// An operand as it is handed over: X, and how many of its bits are fraction bits. Any two numbers can be asked for;
+// those that keep the limits are served.
 #[derive(Clone, Copy, PartialEq, Eq, Debug)]
 pub struct Operand {
     pub n: u32,
@@ -39,9 +40,9 @@ impl Operand {
         Ok(())
     }
 
-    // The first s fraction bits: what X has beyond is cut off, and what it lacks is padded with zeros. They are shifted to the top of 64 bits, where
-    // the leading one falls off, and down again, so that neither side is a case of its own. Where n or s is above MOST_BITS, which no
-    // caller asks for, it gives 0: an Option would only be taken apart.
+    // The first s fraction bits: what X has beyond is cut off, and what it lacks is padded with zeros. They are shifted
+    // to the top of 64 bits, where the leading one falls off, and down again, so that neither side is a case of its
+    // own. Where n or s is above MOST_BITS, which no caller asks for, it gives 0: an Option would only be taken apart.
     pub fn cut(self, s: u32) -> u64
         ensures { result ≡ cut_fraction s self.n self.x }
     {

@@ -100,7 +100,8 @@ field_split s b u v h one one' =
     back : 8 * L - (b + (u + v)) ≡ 8 * L - (b + u + v)
     back = omega arith
 
--- eight bytes from the first on hold bits that lie within 64 from its first one on: moved up past the bits before them, and down
+-- eight bytes from the first on hold bits that lie within 64 from its first one on: moved up past the bits before them,
+-- and down
 module _ (s : List ℕ) (b w : ℕ) (hs : Bytes s) (one : 1 ≤ w) (within : b % 8 + w ≤ 64) where
   -- how many bytes hold them
   abbrev span : ℕ

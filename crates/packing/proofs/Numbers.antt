@@ -1,4 +1,5 @@
--- Laws of `packed`: its bound, its parts, its digits, and that its digits determine it. For any width w and any word function f.
+-- Laws of `packed`: its bound, its parts, its digits, and that its digits determine it. For any width w and any word
+-- function f.
 -- Assumes nothing.
 use Rattle.std.proofs.Common.{◌≡◌, ℕ, zero, suc, ◌+◌, ◌-◌, ◌*◌, ◌/◌, ◌%◌, ◌^◌, ◌<◌, sym, refl, ap, ◌∙◌, ap₂, le_refl, add-zero, add-suc, suc-mul, zero-mul, mul-one, div-one, arith, pow_pos, pow-add, shr-shr}
 use native.Mathlib.Nat.{le_step, mod-one}

@@ -1,5 +1,5 @@
--- Laws of the writer: its place grows by the width, what it has taken in is the number that the words make, and at the end they stand packed.
--- For any width up to 32 and any word function.
+-- Laws of the writer: its place grows by the width, what it has taken in is the number that the words make, and at the
+-- end they stand packed. For any width up to 32 and any word function.
 -- Assumes nothing.
 use Rattle.std.proofs.Common.{◌≡◌, ℕ, zero, suc, ◌+◌, ◌-◌, ◌*◌, ◌/◌, ◌%◌, ◌^◌, ◌<◌, ◌≤◌, Bool, true, false, leb, List, ◌++◌, length, take, drop, sym, refl, ap, ◌∙◌, subst, ap₂, add-zero, mod-lt, mod-eq_of_lt, add_comm, arith, length-append, length-drop, pow_pos, pow-add, shr-shr, shr_lt, le-leb, leb-false, leb-true}
 use native.Mathlib.Nat.{mul-mod_left, mul-div-mul_right}

@@ -3,8 +3,8 @@
 use Rattle.std.specs.Prelude.{ℕ, ◌*◌, ◌/◌, ◌%◌, ◌^◌, cond, List, nat_le}
 use Rattle.packing.specs.Packing.{bytes_value, field_at}
 
--- the bits from bit b on at the top of 64 bits, of which there are 57 or more: eight bytes from the one that holds bit b, moved up past the bits
--- before it
+-- the bits from bit b on at the top of 64 bits, of which there are 57 or more: eight bytes from the one that holds bit
+-- b, moved up past the bits before it
 abbrev pub window_at : List ℕ → ℕ → ℕ
 window_at s b = (bytes_value s (b / 8) 8 * 2 ^ (b % 8)) % 2 ^ 64
 

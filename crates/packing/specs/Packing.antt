@@ -1,4 +1,5 @@
--- Words packed into bytes, most significant bit first, for any width w and any word function (document 01, "The image").
+-- Words packed into bytes, most significant bit first, for any width w and any word function
+-- (docs/SCOPE.md, "The image").
 -- Assumes nothing.
 use Rattle.std.specs.Prelude.{ℕ, zero, suc, ◌+◌, ◌-◌, ◌*◌, ◌/◌, ◌%◌, ◌^◌, ◌<◌, List, [], ◌∷◌, ◌++◌, slice_index}
 
@@ -51,8 +52,9 @@ last_byte w j = last_of (j * w) w
 abbrev pub span_bytes : ℕ → ℕ → ℕ
 span_bytes w j = last_byte w j + 1 - first_byte w j
 
--- the number that the w bits from bit b on of any byte list make, the most significant bit of byte 0 being bit 0: what the bytes from
--- the first to the last of them hold, less the bits behind them and before them; bytes past the end count as 0
+-- the number that the w bits from bit b on of any byte list make, the most significant bit of byte 0 being bit 0: what
+-- the bytes from the first to the last of them hold, less the bits behind them and before them; bytes past the end
+-- count as 0
 unfoldable pub field_at : List ℕ → ℕ → ℕ → ℕ
 field_at s b w = bytes_value s (b / 8) (last_of b w + 1 - b / 8) / 2 ^ (8 * (last_of b w + 1) - (b + w)) % 2 ^ w
 

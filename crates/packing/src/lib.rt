@@ -1,4 +1,5 @@
-// Words of any width packed into bytes: how many they take, any bits of them read back, eight bytes at a time, and, in `writing`, words written.
+// Words of any width packed into bytes: how many they take, any bits of them read back, eight bytes at a time, and, in
+// `writing`, words written.
 #![tactic(auto)]
 
 mod writing;
@@ -12,8 +13,8 @@ pub use writing::{WIDEST_PUT, Writer};
 // The most bits that are read at once wherever they begin: with up to 7 bits before them they lie within 8 bytes.
 pub const WIDEST: u32 = 57;
 
-// The bytes that `count` words of `width` bits take, with the bits that fill the last one. (With `div_ceil` a node and a reciprocal take four instructions
-// more: tried.)
+// The bytes that `count` words of `width` bits take, with the bits that fill the last one. With `div_ceil` a node and a
+// reciprocal take four instructions more.
 pub fn byte_count(width: u32, count: u32) -> u64
     ensures { result ≡ byte_count width count }
 {
@@ -28,8 +29,9 @@ fn eight(s: &[u8], at: usize) -> u64
     u64::from_be_bytes(*s[at..].first_chunk().unwrap())
 }
 
-// The number that the bytes from first up to past make, most significant first. The loop names them by their place: over `&s[first..past]` the calls take
-// as many instructions, but lie otherwise, and a node took 9% more time at k = 8 and at k = 12, the check 11% less.
+// The number that the bytes from first up to past make, most significant first. The loop names them by their place:
+// over `&s[first..past]` the calls take as many instructions, but lie otherwise: a node takes 9% more time at k = 8 and
+// at k = 12, the check 11% less.
 fn gather(s: &[u8], first: usize, past: usize) -> u64
     requires { (first ≤ past) × (past ≤ length s.now) × (past - first ≤ 8) }
     ensures { result ≡ bytes_value s.now first (past - first) }
@@ -41,8 +43,9 @@ fn gather(s: &[u8], first: usize, past: usize) -> u64
     value
 }
 
-// The bits from bit `from` on where not all of eight bytes are there: those past the end count as 0. The last eight are read, and of them those before the
-// first that counts fall off at the top. It stands apart, since in line it takes registers from what is done with each word.
+// The bits from bit `from` on where not all of eight bytes are there: those past the end count as 0. The last eight are
+// read, and of them those before the first that counts fall off at the top. It stands apart: in line it takes registers
+// from what is done with each word.
 #[inline(never)]
 fn window_at_the_end(s: &[u8], from: u64) -> u64
     requires { length s.now < from / 8 + 8 }
@@ -61,7 +64,8 @@ fn window_at_the_end(s: &[u8], from: u64) -> u64
     gather(s, first, s.len()) << (8 * (8 - there) + before)
 }
 
-// The bits from bit `from` on, at the top of 64: 57 of them or more, and zeros below them. Bytes past the end count as 0.
+// The bits from bit `from` on, at the top of 64: 57 of them or more, and zeros below them.
+// Bytes past the end count as 0.
 #[inline(always)]
 pub fn window(s: &[u8], from: u64) -> u64
     ensures { result ≡ window_at s.now from }
@@ -73,8 +77,8 @@ pub fn window(s: &[u8], from: u64) -> u64
     window_at_the_end(s, from)
 }
 
-// The number that the `width` bits from bit `from` on make. Bytes past the end count as 0. Where the bits are more than WIDEST, which no table asks for, it
-// is 0: an Option would only be taken apart at each word.
+// The number that the `width` bits from bit `from` on make. Bytes past the end count as 0. Where the bits are more than
+// WIDEST, which no table asks for, it is 0: an Option would only be taken apart at each word.
 #[inline(always)]
 pub fn field(s: &[u8], from: u64, width: u32) -> u64
     ensures value { result ≡ field_read s.now from width }

@@ -6,8 +6,8 @@ ghost use Rattle.packing.specs.Writing.{started, put_writer, put_leaves, finish_
 // The most bits that are put at once.
 pub const WIDEST_PUT: u32 = 32;
 
-// A writer that has taken `place` bits in, which is where the next word goes. They are stored eight bytes at a time: place % 64 of them wait for their bytes,
-// as the lowest bits of `waiting`. The bits above those do not count.
+// A writer that has taken `place` bits in, which is where the next word goes. They are stored eight bytes at a time:
+// place % 64 of them wait for their bytes, as the lowest bits of `waiting`. The bits above those do not count.
 #[derive(Clone, Copy)]
 pub struct Writer {
     pub waiting: u64,
@@ -33,9 +33,10 @@ impl Writer {
         }
     }
 
-    // Takes the lowest `width` bits of `word` in behind those that wait, and stores eight bytes where that makes 64 bits. A width above WIDEST_PUT, or no
-    // room for the eight bytes, gives the writer back and leaves the buffer: so a loop has nothing to test. The buffer is lent to each put and not kept in the
-    // writer, which is so two numbers that registers carry, handed on by value.
+    // Takes the lowest `width` bits of `word` in behind those that wait, and stores eight bytes where that makes 64
+    // bits. A width above WIDEST_PUT, or no room for the eight bytes, gives the writer back and leaves the buffer: so a
+    // loop has nothing to test. The buffer is lent to each put and not kept in the writer, which is so two numbers that
+    // registers carry, handed on by value.
     pub fn put(self, image: &mut [u8], width: u32, word: u64) -> Writer
         ensures value { result ≡ put_writer image.old self width word }
         ensures image_after { image.new ≡ put_leaves image.old self width word }
@@ -66,8 +67,9 @@ impl Writer {
         }
     }
 
-    // Stores what still waits, with zero bits to the byte's end, and tells how many bytes all that was taken in has. Where the buffer is shorter, it is left.
-    // The bytes are written one by one: to copy them, whose number is no constant, calls `memcpy`, and to zip them with an array goes through the stack (tried).
+    // Stores what still waits, with zero bits to the byte's end, and tells how many bytes all that was taken in has.
+    // Where the buffer is shorter, it is left. The bytes are written one by one: to copy them, whose number is no
+    // constant, calls `memcpy`, and to zip them with an array goes through the stack.
     pub fn finish(self, image: &mut [u8]) -> u64
         ensures value { result ≡ bytes_taken self.place }
         ensures image_after { image.new ≡ finish_leaves image.old self }

@@ -1,14 +1,17 @@
-// The notion of a precision: its limits, the width of a plain word and the length of a plain image with two table guard bits.
+// The notion of a precision: its limits, the width of a plain word and the length of a plain image with two table guard
+// bits.
 #![tactic(auto)]
 
 ghost use Rattle.std.specs.Prelude.{◌≡◌, if◌then◌else◌};
-ghost use Rattle.precision.specs.Precision.{least, greatest, longest_image, in_range, word_width, word_count, image_length};
+ghost use Rattle.precision.specs.Precision.{least, greatest, in_range, word_width, word_count};
+ghost use Rattle.precision.specs.Precision.{image_length, image_lengths, longest_image};
 
 // A precision as it is asked for. Any number can be asked for; 1 to 12 are served.
 #[derive(Clone, Copy, PartialEq, Eq, Debug)]
 pub struct Precision(pub u32);
 
-// The lengths of the plain images of precisions 1 to 12 with two table guard bits, at k - 1: the product holds them as a constant list.
+// The lengths of the plain images of precisions 1 to 12 with two table guard bits, at k - 1: the product holds them as
+// a constant list.
 const IMAGE_LENGTHS: [usize; 12] = [1, 3, 8, 20, 48, 112, 256, 576, 1280, 2816, 6144, 13312];
 
 impl Precision {
@@ -48,6 +51,7 @@ impl Precision {
     // The bytes of the plain image with two table guard bits, None where this is no precision.
     pub fn image_length(self) -> Option<usize>
         ensures value { result ≡ (if in_range self.0 then Some (image_length self.0) else None) }
+        ensures list { IMAGE_LENGTHS ≡ image_lengths }
         ensures longest { Precision.LONGEST_IMAGE ≡ longest_image }
     {
         if !self.in_range() {

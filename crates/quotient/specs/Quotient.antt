@@ -1,4 +1,4 @@
--- A quotient rounded up to a whole number (document 01, "Construction of the nodes").
+-- A quotient rounded up to a whole number (docs/SCOPE.md, "Construction of the nodes").
 -- Assumes nothing.
 use Rattle.std.specs.Prelude.{ℕ, ◌+◌, ◌-◌, ◌/◌}
 

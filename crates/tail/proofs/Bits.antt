@@ -1,4 +1,5 @@
--- The tail of a byte list bit by bit: the lowest byte with a one at bit b or later has such a bit, and no bit before that byte is one.
+-- The tail of a byte list bit by bit: the lowest byte with a one at bit b or later has such a bit, and no bit before
+-- that byte is one.
 -- Assumes nothing.
 use mathlib.Core.Path.{◌≡◌, sym, ◌∙◌, ap}
 use mathlib.Core.Logic.{⊎_elim}

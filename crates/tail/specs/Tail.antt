@@ -1,9 +1,11 @@
--- The tail of a byte list: its bits from some bit on (document 02, Q-2). The most significant bit of byte 0 is bit 0.
+-- The tail of a byte list: its bits from some bit on. The most significant bit of byte 0 is bit 0.
 -- Assumes nothing.
-use Rattle.std.specs.Prelude.{ℕ, ◌-◌, ◌*◌, ◌%◌, ◌^◌, Bool, not, List, Option, Some, None, if◌then◌else◌, eqb, ltb, get_or, length, replicate}
+use Rattle.std.specs.Prelude.{ℕ, ◌-◌, ◌*◌, ◌%◌, ◌^◌, Bool, not, eqb, ltb, if◌then◌else◌}
+use Rattle.std.specs.Prelude.{List, get_or, length, replicate, Option, Some, None}
 use Rattle.bools.specs.Lowest.{lowest}
 
--- what byte i holds of the bits from bit b on, differences stopping at 0: all eight of its bits, its lowest ones, or none
+-- what byte i holds of the bits from bit b on, differences stopping at 0: all eight of its bits, its lowest ones, or
+-- none
 abbrev pub bits_from : ℕ → List ℕ → ℕ → ℕ
 bits_from b s i = get_or s i 0 % 2 ^ (8 - (b - 8 * i))
 

@@ -1,12 +1,13 @@
-// The tail of a buffer, what stands behind the words of an image: zeros written there, and the lowest byte found there that has a one.
+// The tail of a buffer, what stands behind the words of an image: zeros written there, and the lowest byte found there
+// that has a one.
 #![tactic(auto)]
 
 ghost use Rattle.std.specs.Prelude.{◌≡◌, ◌↔◌, ◌+◌, ◌*◌, ◌≤◌, length, IsTrue};
 ghost use Rattle.tail.specs.Tail.{first_one_in};
 ghost use Rattle.tail.specs.Inner.{cleared_from, IsZero, Passed};
 
-// Writes zeros from byte `from` on to the end. It is a loop and no `fill`, which stores the last byte by itself: with that, building at precision 1 took a
-// tenth longer.
+// Writes zeros from byte `from` on to the end. It is a loop and no `fill`, which stores the last byte by itself: with
+// that, building at precision 1 takes a tenth longer.
 #[tactic(auto, using(crate::proofs::Zeros::zeros_next))]
 pub fn clear(s: &mut [u8], from: usize)
     ensures { s.new ≡ cleared_from from s.old }
@@ -18,8 +19,8 @@ pub fn clear(s: &mut [u8], from: usize)
     }
 }
 
-// Whether each byte of a block is 0. They are or-ed one to the other: where the number of bytes is a constant the compiler makes a few readings of them,
-// without a branch.
+// Whether each byte of a block is 0. They are or-ed one to the other: where the number of bytes is a constant the
+// compiler makes a few readings of them, without a branch.
 fn is_zero(block: &[u8]) -> bool
     ensures { IsTrue result ↔ IsZero block.now 0 (length block.now) }
 {
@@ -30,8 +31,8 @@ fn is_zero(block: &[u8]) -> bool
     all == 0
 }
 
-// Passes blocks of `size` bytes from `from` on, as long as they are zero: gives where the next one begins, which is not zero or not there. The place runs
-// beside the blocks, since it is what is asked for.
+// Passes blocks of `size` bytes from `from` on, as long as they are zero: gives where the next one begins, which is not
+// zero or not there. The place runs beside the blocks: it is what is asked for.
 fn passed(s: &[u8], from: usize, size: usize) -> usize
     requires { (1 ≤ size) × (from ≤ length s.now) }
     ensures { Passed s.now from size result }
@@ -46,8 +47,8 @@ fn passed(s: &[u8], from: usize, size: usize) -> usize
     at
 }
 
-// The lowest byte from `from` on that is not 0, and None where there is none: large blocks are passed, then small ones, then bytes,
-// by their place, which is the answer.
+// The lowest byte from `from` on that is not 0, and None where there is none. Large blocks are passed first, since a
+// ROM's tail is long, and small ones next, so that few bytes go one by one.
 fn first_set(s: &[u8], from: usize) -> Option<usize>
     ensures { result ≡ first_one_in (8 * from) s.now }
 {
@@ -64,8 +65,8 @@ fn first_set(s: &[u8], from: usize) -> Option<usize>
     None
 }
 
-// The lowest byte with a one at bit `bit` or later, and None where there is none. A bit inside a byte leaves the lowest bits of that byte, which is then
-// looked at by itself.
+// The lowest byte with a one at bit `bit` or later, and None where there is none. A bit inside a byte leaves the lowest
+// bits of that byte, which is then looked at by itself.
 pub fn first_one(s: &[u8], bit: u64) -> Option<usize>
     ensures { result ≡ first_one_in bit s.now }
 {

@@ -7,8 +7,9 @@ use native.Mathlib.Omega.{arith}
 use lib.Pow.{pow-add, pow_pos}
 use Rattle.units.specs.Units.{table_units_in_one, ulps_in_one, table_units_in_ulp}
 
--- at every precision, and with any number of table guard bits, as many table units make one as the ulps that make one have; the powers are said of
--- 2^(2k) × 2^a, with more than is needed, so that definitions of which this is false are refused with numbers at which it fails
+-- at every precision, and with any number of table guard bits, as many table units make one as the ulps that make one
+-- have; the powers are said of 2^(2k) × 2^a, with more than is needed, so that definitions of which this is false are
+-- refused with numbers at which it fails
 pub ulp_in_units : (k a : ℕ) → table_units_in_one k a ≡ table_units_in_ulp a * ulps_in_one k
 ulp_in_units k a =
     omega (

@@ -1,4 +1,4 @@
--- The two units of the product (document 01, "Quantities"; document 02, Q-14), at precision k with a table guard bits.
+-- The two units of the product (docs/SCOPE.md, "Quantities"), at precision k with a table guard bits.
 -- Assumes nothing.
 use Rattle.std.specs.Prelude.{ℕ, ◌+◌, ◌*◌, ◌^◌}
 

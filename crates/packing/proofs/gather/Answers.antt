@@ -1,4 +1,5 @@
--- `packing::gather` meets its contract: behind fewer than eight bytes a byte more has its place in 64 bits. Assumes nothing.
+-- `packing::gather` meets its contract: behind fewer than eight bytes a byte more has its place in 64 bits. Assumes
+-- nothing.
 use Rattle.std.proofs.Common.{◌-◌, arith}
 use Rattle.packing.specs.Packing.{Bytes}
 use Rattle.packing.proofs.Bytes.{value_lt_56}

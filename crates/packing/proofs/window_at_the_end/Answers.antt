@@ -1,5 +1,5 @@
--- `packing::window_at_the_end` meets its contract: those that are there and zeros behind them, moved up past the bits before and, of the
--- last eight, past the bytes before. Assumes nothing.
+-- `packing::window_at_the_end` meets its contract: those that are there and zeros behind them, moved up past the bits
+-- before and, of the last eight, past the bytes before. Assumes nothing.
 use Rattle.std.proofs.Common.{ℕ, ◌+◌, ◌-◌, ◌*◌, ◌/◌, ◌%◌, ◌^◌, length, ap, ◌∙◌, arith}
 use Rattle.packing.proofs.Fields.{window_near, window_last}
 use Rattle.packing.proofs.window_at_the_end.Goals as goal

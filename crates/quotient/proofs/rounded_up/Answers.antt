@@ -1,4 +1,5 @@
--- `quotient::rounded_up` meets its contract: what std rounds up is the quotient rounded down where that is exact, and else one more.
+-- `quotient::rounded_up` meets its contract: what std rounds up is the quotient rounded down where that is exact, and
+-- else one more.
 -- Assumes nothing.
 use mathlib.Core.Path.{◌≡◌, refl, sym, ◌∙◌}
 use native.Mathlib.Nat.{lt-div-mul-add}

@@ -1,5 +1,5 @@
--- `tail::first_one` meets its contract: where the bits begin inside a byte, that byte is looked at by itself, and those behind it by `first_set`; else all
--- of them by `first_set`.
+-- `tail::first_one` meets its contract: where the bits begin inside a byte, that byte is looked at by itself, and those
+-- behind it by `first_set`; else all of them by `first_set`.
 -- Assumes nothing.
 use mathlib.Core.Path.{◌≡◌, sym, ap, ◌∙◌}
 use mathlib.Core.Logic.{⊎_elim}

@@ -1,4 +1,5 @@
--- `tail::first_set` meets its contract: every byte that was passed is 0, and the one at which it ends is not, or is not there.
+-- `tail::first_set` meets its contract: every byte that was passed is 0, and the one at which it ends is not, or is not
+-- there.
 -- Assumes nothing.
 use mathlib.Core.Path.{◌≡◌}
 use mathlib.Core.Logic.{⊎_elim}

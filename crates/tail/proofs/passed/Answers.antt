@@ -1,4 +1,5 @@
--- `tail::passed` meets its contract: a block is the bytes from the next one on, and where it is zero the blocks behind it are left.
+-- `tail::passed` meets its contract: a block is the bytes from the next one on, and where it is zero the blocks behind
+-- it are left.
 -- Assumes nothing.
 use mathlib.Core.Path.{◌≡◌, sym, ◌∙◌, ap}
 use mathlib.Core.List.{List, ◌++◌}

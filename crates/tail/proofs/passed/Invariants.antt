@@ -1,4 +1,5 @@
--- The loop of `tail::passed`: every byte from the first one up to the next is 0, and the blocks that are left are those of the bytes from there on.
+-- The loop of `tail::passed`: every byte from the first one up to the next is 0, and the blocks that are left are those
+-- of the bytes from there on.
 -- Assumes nothing.
 use mathlib.Core.Path.{◌≡◌}
 use Prim.Native.Nat.{◌≤◌}

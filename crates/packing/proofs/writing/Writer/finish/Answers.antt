@@ -1,4 +1,5 @@
--- `Writer::finish` meets its contract: a turn stores one byte more of those that wait, and behind the last one all of them stand there.
+-- `Writer::finish` meets its contract: a turn stores one byte more of those that wait, and behind the last one all of
+-- them stand there.
 -- Assumes nothing.
 use Rattle.std.proofs.Common.{◌≡◌, ℕ, ◌+◌, ◌-◌, ◌*◌, ◌/◌, ◌%◌, ◌^◌, List, ◌++◌, length, take, drop, set, ap, ◌∙◌, ap₂, arith, le-leb}
 use Rattle.packing.specs.Packing.{bytes_taken}

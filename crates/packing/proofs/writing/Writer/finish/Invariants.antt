@@ -1,4 +1,5 @@
--- The loop of `Writer::finish`: the bits that wait stand at the top of 64, and each turn stores the highest byte of what is left of them.
+-- The loop of `Writer::finish`: the bits that wait stand at the top of 64, and each turn stores the highest byte of
+-- what is left of them.
 -- Assumes nothing.
 use Rattle.std.proofs.Common.{◌≡◌, ◌*◌, ◌%◌, ◌^◌}
 use Rattle.packing.proofs.Storing.{written}

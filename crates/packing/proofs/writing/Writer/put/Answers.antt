@@ -1,4 +1,5 @@
--- `Writer::put` meets its contract where the check doesn't see it alone: where all waits on, and where eight bytes are stored.
+-- `Writer::put` meets its contract where the check doesn't see it alone: where all waits on, and where eight bytes are
+-- stored.
 -- Assumes nothing.
 use Rattle.std.proofs.Common.{◌≡◌, ℕ, ◌+◌, ◌-◌, ◌*◌, ◌/◌, ◌%◌, ◌^◌, ◌<◌, ◌≤◌, refl, ap, ◌∙◌, ap₂, mod-lt, mul_comm, arith, pow_pos}
 use Rattle.packing.specs.Writing.{stored}
