@@ -82,7 +82,7 @@ module _ (t : Quotients) (s image : List ℕ) (w : Writer) (i : ℕ) (h : Filled
     small : t.count * t.width < 2 ^ 64
     small = omega (arith, mul-le-mul few ok.wide)
       where
-        few : t.count ≤ 4294967296
+        few : t.count ≤ 2 ^ 32
         few = omega (arith, ok.few)
 
     pub filled_place : w.place ≡ j * t.width

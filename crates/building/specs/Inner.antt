@@ -5,7 +5,8 @@ use Rattle.layout.specs.Layout.{length_of}
 use Rattle.nodes.specs.declared.Quotients.{Quotients}
 use Rattle.image.specs.Inner.{layout_of}
 
--- n bytes can be filled with the words of t: they can be put and have room, their divisors have 32 bits, and a double holds the numerator, which is not 0
+-- n bytes can be filled with the words of t: they can be put and have room, their divisors have 32 bits, and a double
+-- holds the numerator, which is not 0
 pub record CanFill (t : Quotients) (n : ℕ) : Type 0 where
   pub wide : t.width ≤ 32
   pub few : t.first + t.count < 2 ^ 32

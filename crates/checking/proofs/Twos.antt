@@ -21,8 +21,8 @@ use Rattle.layout.specs.Layout.{is_wrong}
 use Rattle.image.specs.Inner.{layout_of}
 use Rattle.checking.specs.Inner.{AreWords}
 
--- the bits of a pair of words lie within 64 from the start of the byte of the first one on: two words of up to 28 bits lie so wherever they begin, and of 29 and
--- 30 a pair begins at an even place and at a multiple of 4
+-- the bits of a pair of words lie within 64 from the start of the byte of the first one on: two words of up to 28 bits
+-- lie so wherever they begin, and of 29 and 30 a pair begins at an even place and at a multiple of 4
 pair_within : (w p : ℕ) → w ≤ 30 → 2 * p * w % 8 + 2 * w ≤ 64
 pair_within w p narrow = by (ltb 28 w) (eqb w 29) refl refl
   where

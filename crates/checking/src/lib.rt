@@ -1,11 +1,11 @@
 // Checking an image against the construction, and what stands behind it.
 #![tactic(auto)]
 
-ghost use Rattle.std.specs.Prelude.{◌≡◌, ◌+◌, ◌*◌, ◌/◌, ◌<◌, ◌≤◌, length};
+ghost use Rattle.std.specs.Prelude.{◌≡◌, ◌+◌, ◌*◌, ◌/◌, ◌<◌, ◌≤◌, ◌↔◌, length, IsOk};
 ghost use Rattle.packing.specs.Inner.{window_at};
 ghost use Rattle.layout.specs.Layout.{length_of};
 ghost use Rattle.answers.specs.Answer.{outcome_of_done};
-ghost use Rattle.image.specs.Calls.{check_outcome};
+ghost use Rattle.image.specs.Calls.{check_outcome, IsFullRom};
 ghost use Rattle.image.specs.Inner.{layout_of};
 ghost use Rattle.checking.specs.Inner.{AreWords, AreRight, wrong_of_two, wrong_word};
 
@@ -13,8 +13,9 @@ use answers::Refused;
 use format::{Form, Format};
 use nodes::Quotients;
 
-// The lowest wrong one of a pair of words, which are had in one reading, None where both are right. The first bit of a pair has an even place: so 58 bits lie
-// within 64 from the start of its byte on, and 60 do, as that place is then a multiple of 4.
+// The lowest wrong one of a pair of words, which are had in one reading, None where both are right. The first bit of a
+// pair has an even place: so 58 bits lie within 64 from the start of its byte on, and 60 do, as that place is then a
+// multiple of 4.
 #[inline(always)]
 fn wrong_of_two(image: &[u8], table: Quotients, pair: u32) -> Option<u32>
     requires { AreWords table × (pair < table.count / 2) }
@@ -33,8 +34,8 @@ fn wrong_of_two(image: &[u8], table: Quotients, pair: u32) -> Option<u32>
     None
 }
 
-// The bits from bit `from` on, at the top of 64, as `packing::window` has them, where eight bytes are there: nothing is tested. The compiler makes one reading of
-// the eight.
+// The bits from bit `from` on, at the top of 64, as `packing::window` has them, where eight bytes are there: nothing is
+// tested. The compiler makes one reading of the eight.
 fn window(image: &[u8], from: u64) -> u64
     requires { from / 8 + 8 ≤ length image.now }
     ensures { result ≡ window_at image.now from }
@@ -53,13 +54,13 @@ fn window(image: &[u8], from: u64) -> u64
     eight << (from % 8)
 }
 
-// How many words, or one more, are left behind those that are passed: they have 64 bits or more, as a word has 4 or more, so that before them eight bytes are
-// there.
+// How many words, or one more, are left behind those that are passed: they have 64 bits or more, as a word has 4 or
+// more, so that before them eight bytes are there.
 const LAST_WORDS: u32 = 16;
 
-// Passes pairs of right words behind the first one and before the last words, so that eight bytes are there and nothing has to be tested for that; gives up to
-// which pair all are right. It stops at a pair with a wrong word. The bit place runs beside the words: a product in each turn costs the
-// check 13% (tried).
+// Passes pairs of right words behind the first one and before the last words, so that eight bytes are there and nothing
+// has to be tested for that; gives up to which pair all are right. It stops at a pair with a wrong word. The bit place
+// runs beside the words: a product in each turn makes the check 13% slower.
 #[inline(always)]
 fn passed(image: &[u8], table: Quotients) -> u32
     requires words { AreWords table × AreRight (layout_of table) image.now 2 }
@@ -82,9 +83,9 @@ fn passed(image: &[u8], table: Quotients) -> u32
     pairs
 }
 
-// The lowest word of a table that is wrong in the image, None where none is. The first pair is judged by itself, so that behind it no word can be that of node 0,
-// which is decoded in a way of its own; so are the pairs behind those that are passed, at the end and from one with a wrong word on, and the last word where
-// their number is odd.
+// The lowest word of a table that is wrong in the image, None where none is. The first pair is judged by itself, so
+// that behind it no word can be that of node 0, which is decoded in a way of its own; so are the pairs behind those
+// that are passed, at the end and from one with a wrong word on, and the last word where their number is odd.
 #[inline(always)]
 fn first_wrong(image: &[u8], table: Quotients) -> Option<u32>
     requires words { AreWords table }
@@ -110,8 +111,9 @@ fn first_wrong(image: &[u8], table: Quotients) -> Option<u32>
     None
 }
 
-// Whether every word of the image is the construction's and nothing but zeros stands behind the last one, to the buffer's end. Where a word is wrong,
-// the place is the lowest node of a wrong word; where the words are right and a bit behind them is one, it is the lowest byte with such a bit.
+// Whether every word of the image is the construction's and nothing but zeros stands behind the last one, to the
+// buffer's end. Where a word is wrong, the place is the lowest node of a wrong word; where the words are right and a
+// bit behind them is one, it is the lowest byte with such a bit.
 #[inline(always)]
 fn by_words(format: Format, image: &[u8]) -> Result<(), Refused>
     ensures { outcome_of_done result ≡ check_outcome format image.now }
@@ -127,9 +129,12 @@ fn by_words(format: Format, image: &[u8]) -> Result<(), Refused>
     Ok(())
 }
 
-// The same for each form with the usual guard bits by code of its own, in which the compiler knows all but the precision.
+// The same for each form with the usual guard bits by code of its own, in which the compiler knows all but the
+// precision. `reading` and `inverting` choose so too: one function for the three would take the call as a closure and
+// ask that it may be called, and no open function here asks anything of its caller.
 pub fn check(format: Format, image: &[u8]) -> Result<(), Refused>
-    ensures { outcome_of_done result ≡ check_outcome format image.now }
+    ensures outcome { outcome_of_done result ≡ check_outcome format image.now }
+    ensures passes { IsOk result ↔ IsFullRom format image.now }
 {
     if !format.guard_bits.are_usual() {
         return by_words(format, image);

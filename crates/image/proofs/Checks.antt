@@ -1,4 +1,5 @@
--- The answer of the check where the limits are kept: the lowest wrong word first, then the lowest byte with a one behind the words, then none.
+-- The answer of the check where the limits are kept: the lowest wrong word first, then the lowest byte with a one
+-- behind the words, then none.
 -- Assumes nothing.
 use mathlib.Core.Path.{◌≡◌, ◌∙◌}
 use mathlib.Core.Bool.{false}

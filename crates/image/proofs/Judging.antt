@@ -1,5 +1,5 @@
--- What a word in a buffer stands for: the test by a product tells whether it is wrong, and a right one stands for its node; and what that means for
--- the answer of reading a node.
+-- What a word in a buffer stands for: the test by a product tells whether it is wrong, and a right one stands for its
+-- node; and what that means for the answer of reading a node.
 -- Assumes nothing.
 use mathlib.Core.Path.{◌≡◌, refl, sym, ap, ◌∙◌}
 use mathlib.Core.Bool.{Bool, true, false, cond, not, ◌&&◌}
@@ -57,7 +57,8 @@ module _ (F : Format) (s : List ℕ) (j : ℕ) (h : j < word_count F) where
       ∙ turned _ _ (rounds_up (numerator k a) (2 ^ k + j) (stands_for F j (word_of F s j))) (is_wrong (table_of F) s j) (word_tells refl)
       ∙ ap (λ (c : ℕ). cond (is_wrong (table_of F) s j) None (Some (record { 0 = c }))) word_value
 
--- a word that is read and not wrong stands for the node; a node that has none is the last one, and is the node in any case
+-- a word that is read and not wrong stands for the node; a node that has none is the last one, and is the node in any
+-- case
 pub right_node : (F : Format) (s : List ℕ) (j : ℕ) → j ≤ 2 ^ precision_of F → (word_refusal (table_of F) s j).applies ≡ false → node_of F s j ≡ node (precision_of F) (table_bits F) j
 right_node F s j h = by (ltb j (word_count F)) refl
   where

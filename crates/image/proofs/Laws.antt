@@ -1,4 +1,5 @@
--- The tables of the formats: their words have their width, and plain ones with two table guard bits fill whole bytes. The words that the code makes and judges are the table's.
+-- The tables of the formats: their words have their width, and plain ones with two table guard bits fill whole bytes.
+-- The words that the code makes and judges are the table's.
 -- Assumes nothing.
 use mathlib.Core.Path.{◌≡◌, refl, ap, fun_ext}
 use Prim.Native.Nat.{ℕ, zero, suc, ◌+◌, ◌*◌, ◌/◌, ◌^◌, ◌≤◌}
@@ -46,6 +47,6 @@ module _ (k : ℕ) (one : 1 ≤ k) where
   pub whole_bytes : Whole (table_of (plain_of k))
   whole_bytes = omega (arith, eighths k one)
 
-  -- as many as document 01 says
+  -- which are an eighth of the bits of the words
   pub eighth_of_bits : precisions.image_length k ≡ 2 ^ k * (2 * k + 2) / 8
   eighth_of_bits = omega (arith, eighths k one)

@@ -1,4 +1,5 @@
 pub mod Checks
+pub mod Given
 pub mod Judging
 pub mod Laws
 pub mod Limits

@@ -16,7 +16,8 @@ use Rattle.answers.specs.Refusal.{Refusal, outcome, served, some_applies}
 use Rattle.answers.proofs.Earlier.{earlier_passes, earlier_clear, earlier_none}
 use Rattle.layout.specs.Refusals.{length_refusal}
 use Rattle.image.specs.Image.{table_of}
-use Rattle.image.specs.Refusals.{precision_refusal, guard_refusal, limits}
+use Rattle.nodes.specs.Refusals.{precision_refusal, guard_refusal}
+use Rattle.image.specs.Refusals.{limits}
 
 -- the limits are kept: precision and guard bits are in their ranges, and the buffer is long enough
 pub record ImageKept (F : Format) (s : List ℕ) : Type 0 where

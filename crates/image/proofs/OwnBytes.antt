@@ -1,4 +1,5 @@
--- The image's own bytes: where the limits are kept they are as many as the image has, and hold the words that the buffer holds.
+-- The image's own bytes: where the limits are kept they are as many as the image has, and hold the words that the
+-- buffer holds.
 -- Assumes nothing.
 use mathlib.Core.Path.{◌≡◌, refl, ap, ◌∙◌}
 use mathlib.Core.List.{List}

@@ -1,7 +1,7 @@
 -- What the builder, the check and the reading of an image answer, and what the builder leaves in the lent buffer.
 -- Assumes nothing.
-use Rattle.std.specs.Prelude.{ℕ, Bool, cond, not, ◌||◌, List, [], ◌∷◌, ◌++◌, ltb, eqb, length}
-use Rattle.format.specs.Format.{precision_of, word_count, word_width}
+use Rattle.std.specs.Prelude.{◌≡◌, ℕ, Bool, true, cond, not, ◌||◌, List, [], ◌∷◌, ◌++◌, ltb, eqb, length}
+use Rattle.format.specs.Format.{precision_of, word_count, word_width, is_offered}
 use Rattle.format.specs.declared.Format.{Format}
 use Rattle.packing.specs.Packing.{first_byte}
 use Rattle.answers.specs.Refusal.{Refusal, Outcome, outcome, some_applies}
@@ -30,7 +30,13 @@ check_refusals F s = limits F (length s) ++ image_refusal (table_of F) s ∷ tai
 abbrev pub check_outcome : Format → List ℕ → Outcome
 check_outcome F s = outcome (check_refusals F s) 0
 
--- the refusals of reading node j, in checking order: 1, 18, 2, 3 and 6; a plain table has no word of node 2^k, which never gives 6
+-- a full ROM: a format that can be ordered, and a buffer that is its image and zeros to the end; it is then long enough
+-- for the image
+abbrev pub IsFullRom : Format → List ℕ → Type 0
+IsFullRom F s = (is_offered F ≡ true) × (s ≡ rom_of (table_of F) (length s))
+
+-- the refusals of reading node j, in checking order: 1, 18, 2, 3 and 6; a plain table has no word of node 2^k, which
+-- never gives 6
 abbrev pub node_refusals : Format → List ℕ → ℕ → List Refusal
 node_refusals F s j = limits F (length s) ++ node_refusal (precision_of F) j ∷ word_refusal (table_of F) s j ∷ []
 
@@ -38,7 +44,8 @@ node_refusals F s j = limits F (length s) ++ node_refusal (precision_of F) j ∷
 abbrev pub node_outcome : Format → List ℕ → ℕ → Outcome
 node_outcome F s j = outcome (node_refusals F s j) (node_of F s j)
 
--- no bytes are shown: 1, 18 or 2 applies or node j has no word; j is then above 2^k - 1 in plain words, above 2^k in full ones
+-- no bytes are shown: 1, 18 or 2 applies or node j has no word; j is then above 2^k - 1 in plain words, above 2^k in
+-- full ones
 abbrev pub is_hidden : Format → List ℕ → ℕ → Bool
 is_hidden F s j = some_applies (limits F (length s)) || not (ltb j (word_count F))
 

@@ -1,4 +1,5 @@
--- What only inner promises cite: the image's own bytes, what they give for a node, and a table whose words are quotients.
+-- What only inner promises cite: the image's own bytes, what they give for a node, and a table whose words are
+-- quotients.
 -- Assumes nothing.
 use Rattle.std.specs.Prelude.{ℕ, ◌+◌, ◌%◌, ◌^◌, cond, List, Option, Some, eqb, take}
 use Rattle.units.specs.declared.TableUnits.{TableUnits}
@@ -21,7 +22,7 @@ quotients q j = rounded_up q.numerator (q.first + j)
 abbrev pub layout_of : Quotients → Layout
 layout_of q = record { count = q.count; width = q.width; word = λ (j : ℕ). quotients q j % 2 ^ q.width }
 
--- the value of node j of a table by the word that the image's own bytes have for it, of which the lowest 32 bits count, where that passes; the node behind
--- the last word is the leading one
+-- the value of node j of a table by the word that the image's own bytes have for it, of which the lowest 32 bits count,
+-- where that passes; the node behind the last word is the leading one
 abbrev pub node_in_bytes : Quotients → List ℕ → ℕ → Option TableUnits
 node_in_bytes q own j = cond (eqb j q.count) (Some (record { 0 = q.lead })) (judged_word q j (word_read q.width own j % 2 ^ 32))

@@ -42,7 +42,8 @@ module _ (t : Layout) where
   pub word_inside : (j : ℕ) → j < t.count → j * t.width + t.width ≤ 8 * length_of t
   word_inside j h = omega (arith, word_within t.width t.count j h)
 
-  -- where all words are right, the lowest wrong one is past the last; otherwise it is wrong, and those before it are right
+  -- where all words are right, the lowest wrong one is past the last; otherwise it is wrong, and those before it are
+  -- right
   pub all_right : (s : List ℕ) → ((j : ℕ) → j < t.count → word_in t s j ≡ t.word j) → first_wrong t s ≡ t.count
   all_right s r = lowest_none (is_wrong t s) t.count (λ j h. right_not_wrong t s j (r j h))
 

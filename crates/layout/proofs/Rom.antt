@@ -1,4 +1,5 @@
--- A full ROM of a table: its words are the table's and nothing stands behind them; and a buffer of which both are true is one.
+-- A full ROM of a table: its words are the table's and nothing stands behind them; and a buffer of which both are true
+-- is one.
 -- Assumes nothing.
 use mathlib.Core.Path.{◌≡◌, refl, sym, ◌∙◌, ap, ap₂}
 use mathlib.Core.Logic.{⊎_elim}
@@ -11,7 +12,7 @@ use lib.ListN.{length, take, drop, get_or, get_or-replicate, length-append, leng
 use lib.Seq.{take_at, get_or-append-add, get_or-drop, ext_get_or}
 use Rattle.bools.proofs.Bools.{below_or_not}
 use Rattle.bools.specs.Lowest.{lowest}
-use Rattle.bools.proofs.Lowest.{lowest_before, lowest_none}
+use Rattle.bools.proofs.Lowest.{lowest_le, lowest_before, lowest_none}
 use Rattle.packing.specs.Packing.{Bytes, fill_bits, bytes_value, bit_at}
 use Rattle.packing.proofs.Bytes.{value_low}
 use Rattle.packing.proofs.Bits.{bit_of_filling}
@@ -29,9 +30,17 @@ module _ (t : Layout) (n : ℕ) where
   pub rom_length : length_of t ≤ n → length (rom_of t n) ≡ n
   rom_length h = length-append (image_of t) (zeros (n - length_of t)) ∙ omega (arith, image-length t, length-zeros (n - length_of t), h)
 
+  -- or more, where the image has more
+  pub rom_long : length_of t ≤ length (rom_of t n)
+  rom_long = omega (arith, length-append (image_of t) (zeros (n - length_of t)), image-length t)
+
   -- and starts with the image
   pub rom_front : take (length_of t) (rom_of t n) ≡ image_of t
   rom_front = take_at (image_of t) (zeros (n - length_of t)) (length_of t) (image-length t)
+
+-- where the ones behind the words begin is a byte of the buffer, or its end
+pub past_within : (t : Layout) (s : List ℕ) → first_past t s ≤ length s
+past_within t s = lowest_le _ (length s)
 
 -- the image over the front of a buffer, and zeros written behind it, make one
 pub rom_written : (t : Layout) (s : List ℕ) → length_of t ≤ length s → cleared_from (length_of t) (image_of t ++ drop (length_of t) s) ≡ rom_of t (length s)

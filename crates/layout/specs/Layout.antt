@@ -1,4 +1,4 @@
--- A table of words, and what a buffer holds of it (document 01, "The image"; document 02, Q-2).
+-- A table of words, and what a buffer holds of it (docs/SCOPE.md, "The image").
 -- Assumes nothing.
 use Rattle.std.specs.Prelude.{ℕ, ◌-◌, ◌*◌, Bool, not, List, ◌++◌, eqb, take, drop}
 use Rattle.bools.specs.Lowest.{lowest}

@@ -1,4 +1,4 @@
--- The refusals that follow from a table of words (document 01, "Turned back, in checking order"; document 02, Q-2).
+-- The refusals that follow from a table of words (docs/SCOPE.md, "Turned back, in checking order").
 -- Assumes nothing.
 use Rattle.std.specs.Prelude.{ℕ, ◌&&◌, List, ltb, length}
 use Rattle.answers.specs.Refusal.{Refusal}

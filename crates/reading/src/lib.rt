@@ -1,7 +1,9 @@
 // Reading an image: the value of one node, and the bytes that hold one word.
 #![tactic(auto)]
 
-ghost use Rattle.std.specs.Prelude.{◌≡◌, ◌+◌};
+ghost use Rattle.std.specs.Prelude.{◌≡◌, ◌+◌, IfOk};
+ghost use Rattle.format.specs.Format.{precision_of, table_bits};
+ghost use Rattle.nodes.specs.Nodes.{node};
 ghost use Rattle.answers.specs.Answer.{outcome_of_node, part};
 ghost use Rattle.image.specs.Calls.{node_outcome, shown_part, shown_from, shown_count};
 
@@ -21,9 +23,12 @@ fn by_word(format: Format, image: &[u8], j: u32) -> Result<TableUnits, Refused>
     image::node(table, image::own_bytes(table, image), j).ok_or(Refused::Word(j))
 }
 
-// The same for each form by code of its own, in which the compiler knows it, and with the usual guard bits knows these too.
+// The same for each form by code of its own, in which the compiler knows it, and with the usual guard bits knows these
+// too. `checking` and `inverting` choose so too: one function for the three would take the call as a closure and ask
+// that it may be called, and no open function here asks anything of its caller.
 pub fn node(format: Format, image: &[u8], j: u32) -> Result<TableUnits, Refused>
-    ensures { outcome_of_node result ≡ node_outcome format image.now j }
+    ensures outcome { outcome_of_node result ≡ node_outcome format image.now j }
+    ensures value { IfOk result (λ c. c.0 ≡ node (precision_of format) (table_bits format) j) }
 {
     if format.guard_bits.are_usual() {
         return match format.form {
@@ -37,8 +42,8 @@ pub fn node(format: Format, image: &[u8], j: u32) -> Result<TableUnits, Refused>
     }
 }
 
-// Where in the image the bytes stand that hold the word of node j; none, at the front, where there is no such word. The word is not judged. The last byte
-// is counted as `packing::byte_count` does, without `div_ceil`.
+// Where in the image the bytes stand that hold the word of node j; none, at the front, where there is no such word. The
+// word is not judged. The last byte is counted as `packing::byte_count` does, without `div_ceil`.
 pub fn word_part(format: Format, image: &[u8], j: u32) -> Part
     ensures { result ≡ part (shown_from format image.now j) (shown_count format image.now j) }
 {
@@ -60,8 +65,8 @@ pub fn word_part(format: Format, image: &[u8], j: u32) -> Part
     }
 }
 
-// The bytes of the image that hold the word of node j, or an empty part. The word is not judged. The promise has the bytes, and where in the
-// caller's image they stand: its memory, and the first byte's place in it.
+// The bytes of the image that hold the word of node j, or an empty part. The word is not judged. The promise has the
+// bytes, and where in the caller's image they stand: its memory, and the first byte's place in it.
 pub fn word_bytes(format: Format, image: &[u8], j: u32) -> &[u8]
     ensures bytes { result.now ≡ shown_part format image.now j }
     ensures same_buffer { result.ref_ptr.0 ≡ image.entry.ref_ptr.0 }

@@ -1,10 +1,10 @@
--- `building::build` meets its contract: a broken limit leaves all as found, and otherwise the buffer is filled with the words of the nodes,
--- and zeros behind them.
+-- `building::build` meets its contract: a broken limit leaves all as found, and otherwise the buffer is filled with the
+-- words of the nodes, and zeros behind them.
 -- Assumes nothing.
 use mathlib.Core.Path.{◌≡◌, sym, ◌∙◌, ap, ap₂}
 use mathlib.Core.Bool.{false, cond}
 use mathlib.Core.List.{List, [], ◌++◌}
-use Prim.Native.Nat.{ℕ, ◌+◌, ◌*◌, ◌≤◌}
+use Prim.Native.Nat.{ℕ, ◌+◌, ◌*◌, ◌^◌, ◌≤◌}
 use native.Mathlib.Nat.{mul-le-mul}
 use native.Mathlib.Omega.{arith}
 use lib.ListN.{length, drop}
@@ -24,7 +24,9 @@ use Rattle.layout.specs.Layout.{Layout, image_of, length_of, rom_of}
 use Rattle.layout.proofs.Rom.{rom_written}
 use Rattle.image.specs.Image.{table_of}
 use Rattle.image.specs.Refusals.{limits}
+use Rattle.image.specs.Calls.{check_outcome}
 use Rattle.image.specs.Inner.{quotients, layout_of}
+use Rattle.image.proofs.Given.{built_passes}
 use Rattle.image.proofs.Laws.{own_layout}
 use Rattle.image.proofs.Limits.{ImageKept, limit_passes, limit_clear, clear_kept}
 use Rattle.building.specs.Inner.{CanFill}
@@ -60,7 +62,7 @@ finished : (t : Quotients) (s : List ℕ) → CanFill t (length s)
     ≡ image_of (layout_of t) ++ drop (length_of (layout_of t)) s
 finished t s ok = words_finished t.width (quotients t) s t.count ok.wide (omega (arith, mul-le-mul few ok.wide)) ok.room
   where
-    few : t.count ≤ 4294967296
+    few : t.count ≤ 2 ^ 32
     few = omega (arith, ok.few)
 
 pub returns : goal.returns
@@ -73,13 +75,15 @@ returns c =
     let table : t ≡ quotients_of F = c.in_ok-table.ensures.numbers in
     let past : c.finish-past.result ≡ length_of (layout_of t) = c.finish-past.ensures.value ∙ ap bytes_taken c.fill-w.ensures.place_after in
     let words = c.finish-past.ensures.image_after ∙ ap₂ finish_leaves c.fill-w.ensures.bytes c.fill-w.ensures.writer in
+    let left =
+    c.clear.ensures
+    ∙ ap₂ cleared_from past (words ∙ finished t s (rw table (can-fill F s ok)))
+    ∙ ap (λ (t : Quotients). cleared_from (length_of (layout_of t)) (image_of (layout_of t) ++ drop (length_of (layout_of t)) s)) table
+    ∙ ap (λ (l : Layout). cleared_from (length_of l) (image_of l ++ drop (length_of l) s)) (own_layout F)
+    ∙ rom_written (table_of F) s ok.long
+    ∙ sym (ap (leaves F s) (limit_passes F s [] 0 clear)) in
     record {
       value = c.in_ok-table.ensures.refusals;
-      image_after =
-          c.clear.ensures
-          ∙ ap₂ cleared_from past (words ∙ finished t s (rw table (can-fill F s ok)))
-          ∙ ap (λ (t : Quotients). cleared_from (length_of (layout_of t)) (image_of (layout_of t) ++ drop (length_of (layout_of t)) s)) table
-          ∙ ap (λ (l : Layout). cleared_from (length_of l) (image_of l ++ drop (length_of l) s)) (own_layout F)
-          ∙ rom_written (table_of F) s ok.long
-          ∙ sym (ap (leaves F s) (limit_passes F s [] 0 clear));
+      image_after = left;
+      passes = ap (check_outcome F) left ∙ built_passes F s (sym (ap (λ (o : Outcome). o.number) c.in_ok-table.ensures.refusals));
     }

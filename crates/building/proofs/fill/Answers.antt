@@ -1,4 +1,5 @@
--- `building::fill` meets its contract: each word has room and is put behind those before it, and the guesses are asked for with doubles that are no NaN.
+-- `building::fill` meets its contract: each word has room and is put behind those before it, and the guesses are asked
+-- for with doubles that are no NaN.
 -- Assumes nothing.
 use mathlib.Core.Path.{◌≡◌, ap, ◌∙◌}
 use Prim.Native.Nat.{ℕ, ◌-◌, ◌*◌}

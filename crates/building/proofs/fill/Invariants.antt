@@ -1,4 +1,5 @@
--- The loop of `building::fill`: before the word of i, as many words are put as divisors came before it. The running divisor is no NaN.
+-- The loop of `building::fill`: before the word of i, as many words are put as divisors came before it. The running
+-- divisor is no NaN.
 -- Assumes nothing.
 use mathlib.Core.Bool.{not}
 use lib.Dec.{T}

@@ -1,4 +1,5 @@
--- `building::put_word` meets its contract: the guess is settled, and the word has room, so that it is put and the place grows by the width.
+-- `building::put_word` meets its contract: the guess is settled, and the word has room, so that it is put and the place
+-- grows by the width.
 -- Assumes nothing.
 use mathlib.Core.Path.{◌≡◌, ap, ◌∙◌}
 use Prim.Native.Nat.{ℕ, ◌+◌, ◌-◌, ◌*◌, ◌%◌, ◌^◌, ◌≤◌}
@@ -23,7 +24,7 @@ returns c =
     let at = c.requires.place_before in
     let grows = more a.i t.first t.width i.from in
     let upto : a.i + 1 - t.first ≤ t.count = omega (arith, i.from, i.upto) in
-    let few : a.i + 1 - t.first ≤ 4294967296 = omega arith in
+    let few : a.i + 1 - t.first ≤ 2 ^ 32 = omega arith in
     let bits : t.numerator % 2 ^ 63 ≡ t.numerator = mod-eq_of_lt (omega (arith, ok.exact)) in
     let word = c.settled.ensures ∙ ap (λ (m : ℕ). rounded_up m a.i) bits in
     let room : a.w.place + t.width ≤ 8 * length s = omega (arith, at, grows, mul-le-mul_right t.width upto, ok.room) in

@@ -1,5 +1,5 @@
--- `checking::by_words` meets its contract: a broken limit, the lowest wrong word, the lowest byte with a one behind the words, or none of
--- them.
+-- `checking::by_words` meets its contract: a broken limit, the lowest wrong word, the lowest byte with a one behind the
+-- words, or none of them.
 -- Assumes nothing.
 use mathlib.Core.Path.{◌≡◌, sym, ◌∙◌, ap}
 use mathlib.Core.Bool.{false, not}

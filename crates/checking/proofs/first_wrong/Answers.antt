@@ -1,4 +1,5 @@
--- `checking::first_wrong` meets its contract: words are judged two by two, but for those that are passed, and the last by itself where their number is odd.
+-- `checking::first_wrong` meets its contract: words are judged two by two, but for those that are passed, and the last
+-- by itself where their number is odd.
 -- Assumes nothing.
 use mathlib.Core.Path.{◌≡◌, refl, sym, ◌∙◌}
 use mathlib.Core.Bool.{Bool, true, false}

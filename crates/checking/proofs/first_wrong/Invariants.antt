@@ -1,4 +1,5 @@
--- The loop of `checking::first_wrong`: no word before the pair that is read next is wrong, and a pair that is read is there.
+-- The loop of `checking::first_wrong`: no word before the pair that is read next is wrong, and a pair that is read is
+-- there.
 -- Assumes nothing.
 use Prim.Native.Nat.{◌*◌, ◌≤◌}
 use Rattle.image.specs.Inner.{layout_of}

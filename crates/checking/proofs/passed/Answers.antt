@@ -1,4 +1,5 @@
--- `checking::passed` meets its contract: two words are read at once, and both are right where neither is told to be wrong.
+-- `checking::passed` meets its contract: two words are read at once, and both are right where neither is told to be
+-- wrong.
 -- Assumes nothing.
 use mathlib.Core.Path.{◌≡◌, refl, sym, ap, ◌∙◌}
 use mathlib.Core.Bool.{Bool, true, false, ◌||◌}

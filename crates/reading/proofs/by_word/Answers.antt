@@ -1,4 +1,5 @@
--- `reading::by_word` meets its contract: each refusal in its order; a node is what its word stands for, judged by a product, and implied where it has none.
+-- `reading::by_word` meets its contract: each refusal in its order; a node is what its word stands for, judged by a
+-- product, and implied where it has none.
 -- Assumes nothing.
 use mathlib.Core.Path.{◌≡◌, refl, sym, ◌∙◌, ap, ap₂}
 use mathlib.Core.Bool.{Bool, true, false}

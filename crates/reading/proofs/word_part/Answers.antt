@@ -1,4 +1,5 @@
--- `reading::word_part` meets its contract: where there is such a word, its bytes are those from its first bit's to its last bit's.
+-- `reading::word_part` meets its contract: where there is such a word, its bytes are those from its first bit's to its
+-- last bit's.
 -- Assumes nothing.
 use mathlib.Core.Path.{◌≡◌, sym, ap, ap₂, ◌∙◌}
 use mathlib.Core.Bool.{false}
