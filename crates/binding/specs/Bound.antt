@@ -1,4 +1,4 @@
--- A bound table (document 01, "The image").
+-- A bound table: a lent image and the format that it is read by.
 -- Assumes nothing.
 use Rattle.std.specs.Prelude.{ℕ, List}
 use Rattle.std.specs.Borrow.{Bor}

@@ -1,4 +1,5 @@
-// Makes one bound table and uses it for two operands and a node: with the plain image of precision 2, with a byte too few, and with a wrong word.
+// Makes one bound table and uses it for two operands and a node: with the plain image of precision 2, with a byte too
+// few, and with a wrong word.
 #![tactic(auto)]
 
 ghost use Rattle.std.specs.Prelude.{◌≡◌};
@@ -36,7 +37,8 @@ fn ask(format: Format, image: &[u8], x: Operand, y: Operand, j: u32) -> Answers
     }
 }
 
-// A line: the number of a refusal or 0, the place, and the value. The program `cases` has a space before each: one function for both would be the longer.
+// A line: the number of a refusal or 0, the place, and the value. The program `cases` has a space before each: one
+// function for both would be the longer.
 fn line(rt: &impl Print, answer: Result<u64, Refused>) -> io::Result<()> {
     match answer {
         Ok(value) => println!(rt; "0 0 {value}"),

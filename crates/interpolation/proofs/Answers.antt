@@ -36,32 +36,41 @@ module _ (F : Format) (s : List ℕ) (t : ℕ) where
   b = input_bits F
 
   -- the word of node j is wrong
-  pub first-wrong : (word_refusal (table_of F) s (node_number k b t)).applies ≡ true → cut_outcome F s t ≡ record { number = 6; place = node_number k b t; value = 0 }
-  first-wrong e = applied (word_refusal (table_of F) s (node_number k b t)) (word_refusal (table_of F) s (node_number k b t + 1) ∷ []) (read_reciprocal F s t) e
+  pub first-wrong : (word_refusal (table_of F) s (node_number k b t)).applies ≡ true
+      → cut_outcome F s t ≡ record { number = 6; place = node_number k b t; value = 0 }
+  first-wrong e = applied (word_refusal (table_of F) s (node_number k b t))
+      (word_refusal (table_of F) s (node_number k b t + 1) ∷ []) (read_reciprocal F s t) e
 
   module _ (first : (word_refusal (table_of F) s (node_number k b t)).applies ≡ false) where
     -- it is right, and that of node j + 1 is wrong
-    pub next_wrong : (word_refusal (table_of F) s (node_number k b t + 1)).applies ≡ true → cut_outcome F s t ≡ record { number = 6; place = node_number k b t + 1; value = 0 }
+    pub next_wrong : (word_refusal (table_of F) s (node_number k b t + 1)).applies ≡ true
+        → cut_outcome F s t ≡ record { number = 6; place = node_number k b t + 1; value = 0 }
     next_wrong e =
-        passed (word_refusal (table_of F) s (node_number k b t)) (word_refusal (table_of F) s (node_number k b t + 1) ∷ []) (read_reciprocal F s t) first
+        passed (word_refusal (table_of F) s (node_number k b t))
+        (word_refusal (table_of F) s (node_number k b t + 1) ∷ []) (read_reciprocal F s t) first
         ∙ applied (word_refusal (table_of F) s (node_number k b t + 1)) [] (read_reciprocal F s t) e
 
     module _ (next : (word_refusal (table_of F) s (node_number k b t + 1)).applies ≡ false) where
       -- both are right
       pub none_wrong : cut_outcome F s t ≡ served (read_reciprocal F s t)
       none_wrong =
-          passed (word_refusal (table_of F) s (node_number k b t)) (word_refusal (table_of F) s (node_number k b t + 1) ∷ []) (read_reciprocal F s t) first
+          passed (word_refusal (table_of F) s (node_number k b t))
+          (word_refusal (table_of F) s (node_number k b t + 1) ∷ []) (read_reciprocal F s t) first
           ∙ passed (word_refusal (table_of F) s (node_number k b t + 1)) [] (read_reciprocal F s t) next
 
       -- and what they give is R
       pub read_right : node_number k b t < 2 ^ k → read_reciprocal F s t ≡ cut_reciprocal k a b t
       read_right h =
-          ap (λ (c : ℕ). chopped k a b (product_sum k b c (node_of F s (node_number k b t + 1)) (fraction k b t))) (right_node F s (node_number k b t) (le_of_lt h) first)
-          ∙ ap (λ (c' : ℕ). chopped k a b (product_sum k b (node k a (node_number k b t)) c' (fraction k b t))) (right_node F s (node_number k b t + 1) (omega arith) next)
+          ap (λ (c : ℕ). chopped k a b (product_sum k b c (node_of F s (node_number k b t + 1)) (fraction k b t)))
+          (right_node F s (node_number k b t) (le_of_lt h) first)
+          ∙ ap (λ (c' : ℕ). chopped k a b (product_sum k b (node k a (node_number k b t)) c' (fraction k b t)))
+          (right_node F s (node_number k b t + 1) (omega arith) next)
 
 -- behind the limits of the table, of the buffer and of n and X, an operand is answered as t is
-pub answer_of_cut : (F : Format) (s : List ℕ) (n X : ℕ) → some_applies (limits F (length s)) ≡ false → some_applies (operand_refusals n X) ≡ false
+pub answer_of_cut : (F : Format) (s : List ℕ) (n X : ℕ) → some_applies (limits F (length s)) ≡ false
+    → some_applies (operand_refusals n X) ≡ false
     → cut_outcome F s (cut_operand (precision_of F) (input_bits F) n X) ≡ reciprocal_outcome F s n X
 answer_of_cut F s n X kept kept-too =
     let t = cut_operand (precision_of F) (input_bits F) n X in
-    sym (limit_passes F s (operand_refusals n X ++ cut_refusals F s t) (read_reciprocal F s t) kept ∙ operand_passes n X (cut_refusals F s t) (read_reciprocal F s t) kept-too)
+    sym (limit_passes F s (operand_refusals n X ++ cut_refusals F s t) (read_reciprocal F s t) kept
+    ∙ operand_passes n X (cut_refusals F s t) (read_reciprocal F s t) kept-too)

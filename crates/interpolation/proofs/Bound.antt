@@ -1,5 +1,6 @@
--- The one-ulp bound of operands, by powers of two: for every table of nodes that keeps its laws, with a table and b input guard bits; for
--- the nodes rounded up, from a = 2 and b = 3 on; and so for R at every k and n.
+-- The one-ulp bound of operands, by powers of two.
+-- It holds of every table of nodes that keeps its laws, with a table and b input guard bits.
+-- The nodes rounded up keep them from a = 2 and b = 3 on, so it holds of R at every k and n.
 -- Assumes nothing.
 use mathlib.Core.Path.{◌≡◌, sym, ap, subst}
 use Prim.Native.Nat.{ℕ, ◌+◌, ◌-◌, ◌*◌, ◌%◌, ◌^◌, ◌≤◌, ◌<◌}
@@ -32,7 +33,8 @@ module _ (k a b : ℕ) where
 
   exact_positive : 0 < exact_at
   exact_positive =
-      mul-pos (mul-pos (omega arith) (pow_pos b)) (mul-pos (mul-pos (mul-pos (pow_pos k) (pow_pos k)) (pow_pos k)) (pow_pos k))
+      mul-pos (mul-pos (omega arith) (pow_pos b))
+      (mul-pos (mul-pos (mul-pos (pow_pos k) (pow_pos k)) (pow_pos k)) (pow_pos k))
 
   -- nodes that keep the laws
   module _ {c E D : ℕ → ℕ} (nodes : Table (2 ^ a) (2 ^ b) (2 ^ k) c E D) where
@@ -47,7 +49,8 @@ module _ (k a b : ℕ) where
         rw (powers.unit k a b, powers.width k a b)
         (table.bound_high nodes t (rw (powers.least k a b) at l) (rw (powers.most k a b) at m))
 
-    -- of an operand X with n fraction bits, cut or padded: X × 2^(2k+b-n) is t × 2^(n-2k-b) and a rest, and one of the powers is 1
+    -- Of an operand X with n fraction bits, cut or padded: X × 2^(2k+b-n) is t × 2^(n-2k-b) and a rest.
+    -- One of the two powers is 1.
     module _ (n X : ℕ) (least : 2 ^ n ≤ X) (below : X < 2 ^ (n + 1)) where
       abbrev t : ℕ
       t = cut_to (2 * k + b) n X
@@ -71,12 +74,14 @@ module _ (k a b : ℕ) where
       padded_low : 2 ^ (n + 2 * k + 1) * Q < R c t * (X * Q) + X * Q
       padded_low =
           rw (powers.exact k a b n)
-          (rw (cut_split (2 * k + b) n X) at (core.operand_low exact_at (R c t) t S rest (cut_low t from to) (cut_rest (2 * k + b) n X)))
+          (rw (cut_split (2 * k + b) n X) at (core.operand_low exact_at (R c t) t S rest (cut_low t from to)
+          (cut_rest (2 * k + b) n X)))
 
       padded_high : R c t * (X * Q) < 2 ^ (n + 2 * k + 1) * Q + X * Q
       padded_high =
           rw (powers.exact k a b n)
-          (rw (cut_split (2 * k + b) n X) at (core.operand_high exact_at t S rest (R c t) exact_positive (cut_high t from to) (cut_rest (2 * k + b) n X)))
+          (rw (cut_split (2 * k + b) n X) at (core.operand_high exact_at t S rest (R c t) exact_positive
+          (cut_high t from to) (cut_rest (2 * k + b) n X)))
 
       pub operand_low : 2 ^ (n + 2 * k + 1) < R c t * X + X
       operand_low = lt_of_mul-lt-mul_right Q (omega (arith, padded_low))
@@ -84,11 +89,13 @@ module _ (k a b : ℕ) where
       pub operand_high : R c t * X < 2 ^ (n + 2 * k + 1) + X
       operand_high = lt_of_mul-lt-mul_right Q (omega (arith, padded_high))
 
--- the nodes of document 01's construction with a table guard bits keep the laws
-pub rounded-up : (k a b : ℕ) → 2 ≤ a → 3 ≤ b → Table (2 ^ a) (2 ^ b) (2 ^ k) (node k a) (λ (j : ℕ). 1) (λ (j : ℕ). 2 ^ a - 1)
+-- the nodes of the construction with a table guard bits keep the laws
+pub rounded-up : (k a b : ℕ) → 2 ≤ a → 3 ≤ b
+    → Table (2 ^ a) (2 ^ b) (2 ^ k) (node k a) (λ (j : ℕ). 1) (λ (j : ℕ). 2 ^ a - 1)
 rounded-up k a b units steps =
     subst
-    (λ (M : ℕ). Table (2 ^ a) (2 ^ b) (2 ^ k) (λ (j : ℕ). rounded_up M (2 ^ k + j)) (λ (j : ℕ). 1) (λ (j : ℕ). 2 ^ a - 1))
+    (λ (M : ℕ). Table (2 ^ a) (2 ^ b) (2 ^ k) (λ (j : ℕ). rounded_up M (2 ^ k + j)) (λ (j : ℕ). 1)
+    (λ (j : ℕ). 2 ^ a - 1))
     (sym (powers.numerator k a b))
     (keeps (2 ^ a) (2 ^ b) (2 ^ k) (pow_mono units) (pow_mono steps) (pow_pos k))
 

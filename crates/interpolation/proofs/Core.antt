@@ -1,11 +1,18 @@
--- The one-ulp bound of a single piece, over plain numbers and with no division. A piece has the nodes c at i and c' at i + 1; f and g are
--- its parts before and behind t, so that F = f + g is its width, t = i × F + f and P = c × g + c' × f. The nodes are M / i and M / (i+1),
--- raised by at most E; A = E + D table units make an ulp.
+-- The one-ulp bound of a single piece, over plain numbers and with no division. A piece has the nodes c at i and c'
+-- at i + 1. Its parts before and behind t are f and g. So F = f + g is its width, t = i × F + f and
+-- P = c × g + c' × f. The nodes are M / i and M / (i + 1), raised by at most E. A = E + D table units make an ulp.
 -- Assumes nothing.
 use mathlib.Core.Logic.{⊎_elim}
 use mathlib.Core.Path.{◌≡◌, ap}
 use Prim.Native.Nat.{ℕ, zero, suc, ◌+◌, ◌-◌, ◌*◌, ◌≤◌, ◌<◌}
-use native.Mathlib.Nat.{mul-le-mul_left, mul-le-mul_right, mul-pos, le_of_mul-le-mul_left, le_of_mul-le-mul_right, lt_of_mul-lt-mul_right}
+use native.Mathlib.Nat.{
+  mul-le-mul_left,
+  mul-le-mul_right,
+  mul-pos,
+  le_of_mul-le-mul_left,
+  le_of_mul-le-mul_right,
+  lt_of_mul-lt-mul_right,
+}
 use native.Mathlib.Omega.{arith}
 use Rattle.bools.proofs.Bools.{below_or_not}
 
@@ -32,24 +39,29 @@ module _ (M i c c' f g : ℕ) where
       (mul-pos p (omega arith))
 
 -- the weights, times T, over the common divisor I
-joined : (P I W M E D F T U : ℕ) → P * I ≤ M * W + E * F * I → W * T ≡ F * F * I + U → 4 * (M * U) ≤ 4 * (D * F * I * T) → I * (P * T) ≤ I * (M * (F * F) + (E + D) * F * T)
+joined : (P I W M E D F T U : ℕ) → P * I ≤ M * W + E * F * I → W * T ≡ F * F * I + U → 4 * (M * U) ≤ 4 * (D * F * I * T)
+    → I * (P * T) ≤ I * (M * (F * F) + (E + D) * F * T)
 joined P I W M E D F T U h e s = omega (arith, mul-le-mul_right T h, ap (λ (x : ℕ). M * x) e)
 
 module _ (M i c c' f g E D : ℕ) where
-  weighed_high : c * i ≤ M + E * i → c' * (i + 1) ≤ M + E * (i + 1) → (c * g + c' * f) * (i * (i + 1)) ≤ M * (g * (i + 1) + f * i) + E * (f + g) * (i * (i + 1))
+  weighed_high : c * i ≤ M + E * i → c' * (i + 1) ≤ M + E * (i + 1)
+      → (c * g + c' * f) * (i * (i + 1)) ≤ M * (g * (i + 1) + f * i) + E * (f + g) * (i * (i + 1))
   weighed_high h h' = omega (arith, mul-le-mul_right (g * (i + 1)) h, mul-le-mul_right (f * i) h')
 
   -- what the interpolation adds is within what the rounding of the nodes leaves free
-  spare : M * (f + g) + 4 * M * (i + 1) ≤ 4 * D * (i * i * (i + 1)) * (f + g) → 4 * (M * (f * g + g * (i + 1) + f * i)) ≤ 4 * (D * (f + g) * (i * (i + 1)) * (i * (f + g) + f + 1))
+  spare : M * (f + g) + 4 * M * (i + 1) ≤ 4 * D * (i * i * (i + 1)) * (f + g)
+      → 4 * (M * (f * g + g * (i + 1) + f * i)) ≤ 4 * (D * (f + g) * (i * (i + 1)) * (i * (f + g) + f + 1))
   spare room =
       omega (arith, mul-le-mul_right (f + g) room, mul-le-mul_left M (four_times f g))
 
   -- nor is it more than an ulp above the exact value of the next operand
-  pub high : 0 < i → c * i ≤ M + E * i → c' * (i + 1) ≤ M + E * (i + 1) → M * (f + g) + 4 * M * (i + 1) ≤ 4 * D * (i * i * (i + 1)) * (f + g)
+  pub high : 0 < i → c * i ≤ M + E * i → c' * (i + 1) ≤ M + E * (i + 1)
+      → M * (f + g) + 4 * M * (i + 1) ≤ 4 * D * (i * i * (i + 1)) * (f + g)
       → (c * g + c' * f) * (i * (f + g) + f + 1) ≤ M * ((f + g) * (f + g)) + (E + D) * (f + g) * (i * (f + g) + f + 1)
   high p h h' room =
       le_of_mul-le-mul_left {k = i * (i + 1)}
-      (joined (c * g + c' * f) (i * (i + 1)) (g * (i + 1) + f * i) M E D (f + g) (i * (f + g) + f + 1) (f * g + g * (i + 1) + f * i)
+      (joined (c * g + c' * f) (i * (i + 1)) (g * (i + 1) + f * i) M E D (f + g) (i * (f + g) + f + 1)
+      (f * g + g * (i + 1) + f * i)
       (weighed_high h h') (omega arith) (spare room))
       (mul-pos p (omega arith))
 

@@ -2,12 +2,31 @@
 -- Assumes nothing.
 use mathlib.Core.Path.{◌≡◌, sym, ap, ◌∙◌}
 use Prim.Native.Nat.{ℕ, ◌+◌, ◌-◌, ◌*◌, ◌/◌, ◌%◌, ◌^◌, ◌≤◌, ◌<◌}
-use native.Mathlib.Nat.{le_of_lt, mod-lt, add-mul-div_right, add-mul-mod_self_right, sub-le, mul-le-mul, mul-le-mul_right, le-div_iff_mul-le, div-lt_iff_lt-mul, div-le_of_le-mul}
+use native.Mathlib.Nat.{
+  le_of_lt,
+  mod-lt,
+  add-mul-div_right,
+  add-mul-mod_self_right,
+  sub-le,
+  mul-le-mul,
+  mul-le-mul_right,
+  le-div_iff_mul-le,
+  div-lt_iff_lt-mul,
+  div-le_of_le-mul,
+}
 use native.Mathlib.Omega.{arith}
 use lib.Pow.{pow_pos, pow-add, pow_mono}
 use Rattle.nodes.specs.Nodes.{node}
 use Rattle.nodes.proofs.Nodes.{node_last, node_most, node_ordered, node_near}
-use Rattle.interpolation.specs.Algorithm.{index, node_number, fraction, product_sum, chopped, cut_product_sum, cut_reciprocal}
+use Rattle.interpolation.specs.Algorithm.{
+  index,
+  node_number,
+  fraction,
+  product_sum,
+  chopped,
+  cut_product_sum,
+  cut_reciprocal,
+}
 use Rattle.interpolation.specs.Inner.{cut_of}
 use Rattle.interpolation.proofs.Pieces as pieces
 use Rattle.interpolation.proofs.Powers as powers
@@ -51,18 +70,25 @@ module _ (k b bits : ℕ) where
   bits_least = omega arith
 
   pub bits_most : bits < 2 ^ (2 * k + b) → cut_of k b bits < 2 ^ (2 * k + (b + 1))
-  bits_most h = omega (arith, h, pow-add 2 (2 * k) b, ap (λ (x : ℕ). 2 ^ (2 * k) * x) (pow-add 2 b 1), pow-add 2 (2 * k) (b + 1))
+  bits_most h = omega (
+    arith,
+    h,
+    pow-add 2 (2 * k) b,
+    ap (λ (x : ℕ). 2 ^ (2 * k) * x) (pow-add 2 b 1),
+    pow-add 2 (2 * k) (b + 1),
+  )
 
 -- f is below 2^(k+b) at every t
 pub cut_fraction_below : (k b t : ℕ) → fraction k b t < 2 ^ (k + b)
 cut_fraction_below k b t = mod-lt t (pow_pos (k + b))
 
--- the two products of P, and P, between nodes c and c': none has more than 3k + a + b + 1 bits behind its leading one, and the second product is
--- no greater than the first
+-- The two products of P, and P, between nodes c and c': none has more than 3k + a + b + 1 bits behind its leading
+-- one. The second product is no greater than the first.
 pub product_most : (k a b c : ℕ) → c ≤ 2 ^ (2 * k + (a + 1)) → c * 2 ^ (k + b) ≤ 2 ^ (3 * k + (a + b + 1))
 product_most k a b c h =
     let together : 2 ^ (2 * k + (a + 1)) * 2 ^ (k + b) ≡ 2 ^ (3 * k + (a + b + 1)) =
-    sym (pow-add 2 (2 * k + (a + 1)) (k + b)) ∙ ap (λ (e : ℕ). 2 ^ e) {x = 2 * k + (a + 1) + (k + b)} {y = 3 * k + (a + b + 1)} (omega arith) in
+    sym (pow-add 2 (2 * k + (a + 1)) (k + b))
+    ∙ ap (λ (e : ℕ). 2 ^ e) {x = 2 * k + (a + 1) + (k + b)} {y = 3 * k + (a + b + 1)} (omega arith) in
     omega (arith, mul-le-mul_right (2 ^ (k + b)) h, together)
 
 pub difference_most : (k b c c' f : ℕ) → f ≤ 2 ^ (k + b) → (c - c') * f ≤ c * 2 ^ (k + b)
@@ -106,16 +132,22 @@ cut_node_falls k a b t = node_ordered k a {i = node_number k b t} {j = node_numb
 module _ (k a b t : ℕ) (least : 2 ^ (2 * k + b) ≤ t) (most : t < 2 ^ (2 * k + (b + 1))) where
   pub cut_node_least : 2 ^ (2 * k + a) ≤ node k a (node_number k b t + 1)
   cut_node_least =
-      omega (arith, node_last k a, node_ordered k a {i = node_number k b t + 1} {j = 2 ^ k} (omega (arith, cut_number_below k b t least most)))
+      omega (
+        arith,
+        node_last k a,
+        node_ordered k a {i = node_number k b t + 1} {j = 2 ^ k} (omega (arith, cut_number_below k b t least most)),
+      )
 
   -- R runs from 2^(2k) to 2^(2k+1)
   pub cut_reciprocal_least : 2 ^ (2 * k) ≤ cut_reciprocal k a b t
   cut_reciprocal_least =
-      chopped_least k a b (node k a (node_number k b t)) (node k a (node_number k b t + 1)) (fraction k b t) (cut_node_falls k a b t) (le_of_lt (cut_fraction_below k b t)) cut_node_least
+      chopped_least k a b (node k a (node_number k b t)) (node k a (node_number k b t + 1)) (fraction k b t)
+      (cut_node_falls k a b t) (le_of_lt (cut_fraction_below k b t)) cut_node_least
 
   pub cut_reciprocal_most : cut_reciprocal k a b t ≤ 2 ^ (2 * k + 1)
   cut_reciprocal_most =
-      chopped_most k a b (node k a (node_number k b t)) (node k a (node_number k b t + 1)) (fraction k b t) (cut_node_falls k a b t) (le_of_lt (cut_fraction_below k b t)) (cut_node_most k a b t)
+      chopped_most k a b (node k a (node_number k b t)) (node k a (node_number k b t + 1)) (fraction k b t)
+      (cut_node_falls k a b t) (le_of_lt (cut_fraction_below k b t)) (cut_node_most k a b t)
 
 -- P one step before the end of a piece whose nodes differ by less than D
 one_step : (c c' u F D f P : ℕ) → 0 < F → f ≡ F - 1 → c' ≡ u → c < c' + D → P ≡ c * (F - f) + c' * f → P < u * F + D
@@ -145,12 +177,26 @@ module _ (k a b t : ℕ) (some : 1 ≤ b) (last : t + 1 ≡ 2 ^ (2 * k + (b + 1)
   sum_last =
       let j = node_number k b t in
       let upper : node k a (j + 1) ≡ 2 ^ (2 * k + a) = ap (node k a) number_last ∙ node_last k a in
-      one_step (node k a j) (node k a (j + 1)) (2 ^ (2 * k + a)) F (2 ^ (k + (a + 1))) (fraction k b t) (cut_product_sum k a b t) (pow_pos (k + b)) fraction_last upper (node_near k a j)
-      (sum_parts (node k a j) (node k a (j + 1)) F (fraction k b t) (cut_node_falls k a b t) (le_of_lt (cut_fraction_below k b t)))
+      one_step (node k a j) (node k a (j + 1)) (2 ^ (2 * k + a)) F (2 ^ (k + (a + 1))) (fraction k b t)
+      (cut_product_sum k a b t) (pow_pos (k + b)) fraction_last upper (node_near k a j)
+      (sum_parts (node k a j) (node k a (j + 1)) F (fraction k b t) (cut_node_falls k a b t)
+      (le_of_lt (cut_fraction_below k b t)))
 
   pub cut_reciprocal_last : cut_reciprocal k a b t ≡ 2 ^ (2 * k)
   cut_reciprocal_last =
       let more : k + (a + 1) ≤ k + (a + b) = omega (arith, some) in
       let below : cut_reciprocal k a b t < 2 ^ (2 * k) + 1 =
       (div-lt_iff_lt-mul (pow_pos (k + (a + b)))).1 (omega (arith, sum_last, last_product k a b, pow_mono more)) in
-      omega (arith, below, cut_reciprocal_least k a b t (omega (arith, last, pow-add 2 (2 * k) b, ap (λ (x : ℕ). 2 ^ (2 * k) * x) (pow-add 2 b 1), pow-add 2 (2 * k) (b + 1), pow_pos (2 * k + b))) (omega (arith, last)))
+      omega (
+        arith,
+        below,
+        cut_reciprocal_least k a b t
+            (omega (
+              arith,
+              last,
+              pow-add 2 (2 * k) b,
+              ap (λ (x : ℕ). 2 ^ (2 * k) * x) (pow-add 2 b 1),
+              pow-add 2 (2 * k) (b + 1),
+              pow_pos (2 * k + b),
+            )) (omega (arith, last)),
+      )

@@ -10,3 +10,4 @@ pub mod Neighbours
 pub mod Bound
 pub mod Cut
 pub mod Answers
+pub mod Given

@@ -1,5 +1,6 @@
--- How far the reciprocals of neighbouring cut operands lie apart, by powers of two: for every table of nodes that keeps the laws of the steps, with a table
--- and b input guard bits; and for the nodes of the construction at every k, where the limit is reached too.
+-- How far the reciprocals of neighbouring cut operands lie apart, by powers of two.
+-- It holds of every table of nodes that keeps the laws of the steps, with a table and b input guard bits.
+-- The nodes of the construction keep them at every k, where the limit is reached too.
 -- Assumes nothing.
 use mathlib.Core.Path.{◌≡◌, sym, ap, subst, ◌∙◌}
 use mathlib.Core.Logic.{⊎_elim}
@@ -76,25 +77,34 @@ nodes_steady k a =
 
 -- So P of the construction falls by the difference of its nodes for each step of t,
 module _ (k a b : ℕ) where
-  pub sum_step : (t : ℕ) → IsIn k b t → cut_product_sum k a b t ≡ cut_product_sum k a b (t + 1) + (node k a (node_number k b t) - node k a (node_number k b t + 1))
+  pub sum_step : (t : ℕ) → IsIn k b t
+      → cut_product_sum k a b t
+      ≡ cut_product_sum k a b (t + 1) + (node k a (node_number k b t) - node k a (node_number k b t + 1))
   sum_step t cut =
-      steps.one_step (nodes_steady k a) (2 ^ (k + b)) (pow_pos (k + b)) t (rw (powers.width k a b) (rw (powers.least k a b) at cut.0))
+      steps.one_step (nodes_steady k a) (2 ^ (k + b)) (pow_pos (k + b)) t
+      (rw (powers.width k a b) (rw (powers.least k a b) at cut.0))
       (rw (powers.width k a b) (rw (powers.most k a b) at cut.1))
 
   -- and R as above.
   pub cut_order : (t t' : ℕ) → IsIn k b t → IsIn k b t' → t ≤ t' → cut_reciprocal k a b t' ≤ cut_reciprocal k a b t
   cut_order = by_order k a b (nodes_steady k a)
 
-  pub cut_within : (t t' : ℕ) → IsIn k b t → IsIn k b t' → (U : ℕ) → 2 * (t' - t) ≤ U * 2 ^ b → cut_reciprocal k a b t ≤ cut_reciprocal k a b t' + U
+  pub cut_within : (t t' : ℕ) → IsIn k b t → IsIn k b t' → (U : ℕ) → 2 * (t' - t) ≤ U * 2 ^ b
+      → cut_reciprocal k a b t ≤ cut_reciprocal k a b t' + U
   cut_within = by_distance k a b (nodes_steady k a)
 
 -- The limit of a step of d, d / 2^(b-1) rounded up, reaches 2d / 2^b.
 module _ (b d : ℕ) (some : 1 ≤ b) where
   pub limit_enough : 2 * d ≤ rounded_up d (2 ^ (b - 1)) * 2 ^ b
-  limit_enough = omega (arith, reaches d (2 ^ (b - 1)) (pow_pos (b - 1)), ap (λ (x : ℕ). rounded_up d (2 ^ (b - 1)) * x) (halves b some))
+  limit_enough = omega (
+    arith,
+    reaches d (2 ^ (b - 1)) (pow_pos (b - 1)),
+    ap (λ (x : ℕ). rounded_up d (2 ^ (b - 1)) * x) (halves b some),
+  )
 
   -- and from the least cut operand each step of fewer than 2^k is as large
-  pub limit_reached : (k a : ℕ) → d < 2 ^ k → cut_reciprocal k a b (2 ^ (2 * k + b)) ≡ cut_reciprocal k a b (2 ^ (2 * k + b) + d) + rounded_up d (2 ^ (b - 1))
+  pub limit_reached : (k a : ℕ) → d < 2 ^ k
+      → cut_reciprocal k a b (2 ^ (2 * k + b)) ≡ cut_reciprocal k a b (2 ^ (2 * k + b) + d) + rounded_up d (2 ^ (b - 1))
   limit_reached k a few =
       rw (powers.least k a b, powers.unit k a b, powers.width k a b, powers.numerator k a b)
       (rw (sym (halves b some)) at (reached.reached (2 ^ a) (2 ^ (b - 1)) (2 ^ k) d (pow_pos a) (pow_pos (b - 1)) few))

@@ -33,8 +33,10 @@ module _ (K F t : ℕ) (wide : 0 < F) (least : K * F ≤ t) (most : t < 2 * K * 
 -- where t + 1 lies: beside t in its piece, or at the start of the next one
 module _ (F t : ℕ) (wide : 0 < F) where
   next_at : (q r : ℕ) → q * F + r ≡ t + 1 → r < F → ((t + 1) / F ≡ q) × ((t + 1) % F ≡ r)
-  next_at q r e l =
-      (ap (λ (x : ℕ). x / F) (sym e) ∙ digits_div q {m = F} {r = r} l, ap (λ (x : ℕ). x % F) (sym e) ∙ digits_mod q {m = F} {r = r} l)
+  next_at q r e l = (
+    ap (λ (x : ℕ). x / F) (sym e) ∙ digits_div q {m = F} {r = r} l,
+    ap (λ (x : ℕ). x % F) (sym e) ∙ digits_mod q {m = F} {r = r} l,
+  )
 
   pub next_inside : t % F + 1 < F → ((t + 1) / F ≡ t / F) × ((t + 1) % F ≡ t % F + 1)
   next_inside l = next_at (t / F) (t % F + 1) (omega (arith, div-add-mod' t F)) l

@@ -22,15 +22,18 @@ module _ (k a b : ℕ) where
   -- K cubed
   cubed : 2 ^ (3 * k) ≡ 2 ^ k * 2 ^ k * 2 ^ k
   cubed =
-      ap (λ (e : ℕ). 2 ^ e) {x = 3 * k} {y = k + k + k} (omega arith) ∙ pow-add 2 (k + k) k ∙ ap (λ (x : ℕ). x * 2 ^ k) (pow-add 2 k k)
+      ap (λ (e : ℕ). 2 ^ e) {x = 3 * k} {y = k + k + k} (omega arith) ∙ pow-add 2 (k + k) k
+      ∙ ap (λ (x : ℕ). x * 2 ^ k) (pow-add 2 k k)
 
   -- M, what is divided to give a node
   pub numerator : 2 ^ (3 * k + (a + 1)) ≡ 2 * 2 ^ a * (2 ^ k * 2 ^ k * 2 ^ k)
-  numerator = pow-add 2 (3 * k) (a + 1) ∙ omega (arith, ap (λ (x : ℕ). x * 2 ^ (a + 1)) cubed, ap (λ (x : ℕ). 2 ^ k * 2 ^ k * 2 ^ k * x) (pow-add 2 a 1))
+  numerator = pow-add 2 (3 * k) (a + 1)
+      ∙ omega (arith, ap (λ (x : ℕ). x * 2 ^ (a + 1)) cubed, ap (λ (x : ℕ). 2 ^ k * 2 ^ k * 2 ^ k * x) (pow-add 2 a 1))
 
   -- the least t
   pub least : 2 ^ (2 * k + b) ≡ 2 ^ k * (2 ^ b * 2 ^ k)
-  least = ap (λ (e : ℕ). 2 ^ e) {x = 2 * k + b} {y = k + (k + b)} (omega arith) ∙ pow-add 2 k (k + b) ∙ ap (λ (x : ℕ). 2 ^ k * x) width
+  least = ap (λ (e : ℕ). 2 ^ e) {x = 2 * k + b} {y = k + (k + b)} (omega arith) ∙ pow-add 2 k (k + b)
+      ∙ ap (λ (x : ℕ). 2 ^ k * x) width
 
   -- and the end of all t
   pub most : 2 ^ (2 * k + (b + 1)) ≡ 2 * 2 ^ k * (2 ^ b * 2 ^ k)
@@ -40,10 +43,12 @@ module _ (k a b : ℕ) where
       ∙ omega (arith, least)
 
   -- N, and N × 2^(n-2k-b), by which an operand that is padded by 2k + b - n bits is measured
-  pub exact : (n : ℕ) → 2 ^ (n + 2 * k + 1) * 2 ^ (2 * k + b - n) ≡ 2 * 2 ^ b * (2 ^ k * 2 ^ k * 2 ^ k * 2 ^ k) * 2 ^ (n - (2 * k + b))
+  pub exact : (n : ℕ) → 2 ^ (n + 2 * k + 1) * 2 ^ (2 * k + b - n)
+      ≡ 2 * 2 ^ b * (2 ^ k * 2 ^ k * 2 ^ k * 2 ^ k) * 2 ^ (n - (2 * k + b))
   exact n =
       sym (pow-add 2 (n + 2 * k + 1) (2 * k + b - n))
-      ∙ ap (λ (e : ℕ). 2 ^ e) {x = n + 2 * k + 1 + (2 * k + b - n)} {y = (k + (b + 1) + 3 * k) + (n - (2 * k + b))} (omega arith)
+      ∙ ap (λ (e : ℕ). 2 ^ e) {x = n + 2 * k + 1 + (2 * k + b - n)} {y = (k + (b + 1) + 3 * k) + (n - (2 * k + b))}
+      (omega arith)
       ∙ pow-add 2 (k + (b + 1) + 3 * k) (n - (2 * k + b))
       ∙ ap (λ (x : ℕ). x * 2 ^ (n - (2 * k + b))) all
     where

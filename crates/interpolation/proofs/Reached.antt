@@ -1,9 +1,20 @@
--- The limit of the steps cannot be lowered: with nodes rounded up, each step of fewer than K from the least cut operand reaches it, whatever the number A
--- of table units to an ulp and the number B of steps of t, which is 2H. There the first two nodes lie 2A(K - 1) apart or more.
+-- The limit of the steps cannot be lowered: with nodes rounded up, each step of fewer than K from the least cut
+-- operand reaches it. That is so whatever the number A of table units to an ulp and the number B of steps of t, which
+-- is 2H. There the first two nodes lie 2A(K - 1) apart or more.
 -- Assumes nothing.
 use mathlib.Core.Path.{◌≡◌, ap, ap₂, ◌∙◌}
 use Prim.Native.Nat.{ℕ, ◌+◌, ◌-◌, ◌*◌, ◌/◌, ◌%◌, ◌≤◌, ◌<◌}
-use native.Mathlib.Nat.{le_refl, le_of_lt, sub-le, mul-pos, le-div_iff_mul-le, mul-le-mul, mul-le-mul_right, div-mul-le_self, lt_of_mul-lt-mul_right}
+use native.Mathlib.Nat.{
+  le_refl,
+  le_of_lt,
+  sub-le,
+  mul-pos,
+  le-div_iff_mul-le,
+  mul-le-mul,
+  mul-le-mul_right,
+  div-mul-le_self,
+  lt_of_mul-lt-mul_right,
+}
 use native.Mathlib.Omega.{arith}
 use lib.Arith.{digits_div, digits_mod}
 use Rattle.quotient.specs.Quotient.{rounded_up}
@@ -13,11 +24,14 @@ use Rattle.interpolation.proofs.Steps.{sum_at, reciprocal_at, falls_within}
 use Rattle.interpolation.proofs.Excess.{numerator_of}
 use Rattle.interpolation.proofs.RoundedUp.{rounded_node, rounded_steady}
 
--- U is the limit of d steps, d / H rounded up; D is what P falls by at each of them, P and R are what it comes to at the last one, and m is K - 1
-core : (A H K m d U D P R : ℕ) → 0 < A → m + 1 ≡ K → d < K → U * H < d + H → 2 * A * m ≤ D → P + D * d ≡ 2 * (K * K) * (A * (2 * H * K)) → R * (A * (2 * H * K)) ≤ P
+-- U is the limit of d steps, d / H rounded up. At each of them P falls by D. P and R are what it comes to at the last
+-- one, and m is K - 1.
+core : (A H K m d U D P R : ℕ) → 0 < A → m + 1 ≡ K → d < K → U * H < d + H → 2 * A * m ≤ D
+    → P + D * d ≡ 2 * (K * K) * (A * (2 * H * K)) → R * (A * (2 * H * K)) ≤ P
     → R + U ≤ 2 * (K * K)
 core A H K m d U D P R units one few limit apart p r =
-    let reach : (U * H + 1) * (2 * A * K) ≤ (d + H) * (2 * A * K) = mul-le-mul_right (2 * A * K) (omega (arith, limit)) in
+    let reach : (U * H + 1) * (2 * A * K) ≤ (d + H) * (2 * A * K) =
+    mul-le-mul_right (2 * A * K) (omega (arith, limit)) in
     let before : (d + 1) * (2 * A) ≤ K * (2 * A) = mul-le-mul_right (2 * A) (omega (arith, few)) in
     let below : (R + U) * (A * (2 * H * K)) < (2 * (K * K) + 1) * (A * (2 * H * K)) =
     omega (arith, reach, before, p, r, units, mul-le-mul_right d apart, ap (λ (x : ℕ). 2 * A * d * x) one) in
@@ -88,9 +102,11 @@ module _ (A H K d : ℕ) (units : 0 < A) (steps : 0 < H) (few : d < K) where
   reached =
       let unit : 0 < A * F = mul-pos units (omega (arith, inside)) in
       let limit : 2 * d ≤ rounded_up d H * (2 * H) = omega (arith, reaches d H steps) in
-      let no_more = falls_within (rounded_steady A K some units) (2 * H) units (omega (arith, steps)) some (K * F) d (le_refl (K * F)) (omega (arith, inside, mul-le-mul_right F some)) (rounded_up d H) limit in
+      let no_more = falls_within (rounded_steady A K some units) (2 * H) units (omega (arith, steps)) some (K * F) d
+      (le_refl (K * F)) (omega (arith, inside, mul-le-mul_right F some)) (rounded_up d H) limit in
       let no_less =
-      core A H K (K - 1) d (rounded_up d H) (c 0 - c 1) (sum_at K F c (K * F + d)) (R (K * F + d)) units (omega (arith, some)) few (passes_less d H steps) apart behind
+      core A H K (K - 1) d (rounded_up d H) (c 0 - c 1) (sum_at K F c (K * F + d)) (R (K * F + d)) units
+      (omega (arith, some)) few (passes_less d H steps) apart behind
       (div-mul-le_self (sum_at K F c (K * F + d)) (A * F)) in
       let from : 2 * (K * K) ≤ R (K * F) = (le-div_iff_mul-le unit).1 (omega (arith, at_least)) in
       omega (arith, no_more, no_less, from)

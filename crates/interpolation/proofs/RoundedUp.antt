@@ -1,5 +1,5 @@
--- The nodes that are the exact values rounded up, and no more: their steps are steady for every number of table units to an ulp, and their table keeps all
--- laws from 4 table units and 8 steps on.
+-- The nodes that are the exact values rounded up, and no more. Their steps are steady for every number of table units
+-- to an ulp. Their table keeps all laws from 4 table units and 8 steps on.
 -- Assumes nothing.
 use mathlib.Core.Path.{◌≡◌}
 use Prim.Native.Nat.{ℕ, ◌+◌, ◌-◌, ◌*◌, ◌≤◌, ◌<◌}
@@ -15,8 +15,10 @@ use Rattle.interpolation.proofs.Table.{Table}
 spare : (x y : ℕ) → (4 + x) * (8 + y) + 4 * (4 + x) ≤ 2 * (3 + x) * (8 + y)
 spare x y = omega arith
 
-room_of : (A B D K2 K3 i Y : ℕ) → A * B + 4 * A ≤ 2 * D * B → K3 ≤ Y → K2 * (i + 1) ≤ Y → A * B * K3 + 4 * A * K2 * (i + 1) ≤ 2 * D * B * Y
-room_of A B D K2 K3 i Y s p q = omega (arith, mul-le-mul_right Y s, mul-le-mul_left (A * B) p, mul-le-mul_left (4 * A) q)
+room_of : (A B D K2 K3 i Y : ℕ) → A * B + 4 * A ≤ 2 * D * B → K3 ≤ Y → K2 * (i + 1) ≤ Y
+    → A * B * K3 + 4 * A * K2 * (i + 1) ≤ 2 * D * B * Y
+room_of A B D K2 K3 i Y s p q =
+    omega (arith, mul-le-mul_right Y s, mul-le-mul_left (A * B) p, mul-le-mul_left (4 * A) q)
 
 -- the powers of K against those of i
 cube : (K i : ℕ) → K ≤ i → K * K * K ≤ i * i * (i + 1)
@@ -63,5 +65,6 @@ module _ (A B K : ℕ) (units : 4 ≤ A) (steps : 8 ≤ B) (some : 0 < K) where
         nodes = exceeds A K some;
         excess = λ j h. omega arith;
         room = λ j h.
-            room_of A B (A - 1) (K * K) (K * K * K) (K + j) ((K + j) * (K + j) * (K + j + 1)) spare_at (cube K (K + j) (omega arith)) (square K (K + j) (omega arith));
+            room_of A B (A - 1) (K * K) (K * K * K) (K + j) ((K + j) * (K + j) * (K + j + 1)) spare_at
+            (cube K (K + j) (omega arith)) (square K (K + j) (omega arith));
       }

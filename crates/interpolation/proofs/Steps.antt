@@ -1,11 +1,22 @@
--- How far the reciprocals of neighbouring cut operands lie apart, for every table of nodes that fall, and none by more than 2AK to the next: K pieces,
--- A = 2^a table units to an ulp and B = 2^b steps of t to each 2^(-2k) of the operand. P falls by the difference of its two nodes for each step of t, at a
--- piece's last step too: there both pieces give the same P, which is that of the node between them.
+-- How far the reciprocals of neighbouring cut operands lie apart, for every table of nodes that fall, and none by
+-- more than 2AK to the next. There are K pieces, A = 2^a table units to an ulp and B = 2^b steps of t to each 2^(-2k)
+-- of the operand. P falls by the difference of its two nodes for each step of t. At a piece's last step it does so
+-- too: there both pieces give the same P, which is that of the node between them.
 -- Assumes nothing.
 use mathlib.Core.Path.{◌≡◌, sym, ap, ap₂, ◌∙◌}
 use mathlib.Core.Logic.{⊎_elim}
 use Prim.Native.Nat.{ℕ, zero, suc, ◌+◌, ◌-◌, ◌*◌, ◌/◌, ◌%◌, ◌≤◌, ◌<◌}
-use native.Mathlib.Nat.{le_refl, eq-or-lt_of_le, mod-lt, mul-pos, sub-le, mul-le-mul, mul-le-mul_right, lt-div-mul-add, div-lt_iff_lt-mul}
+use native.Mathlib.Nat.{
+  le_refl,
+  eq-or-lt_of_le,
+  mod-lt,
+  mul-pos,
+  sub-le,
+  mul-le-mul,
+  mul-le-mul_right,
+  lt-div-mul-add,
+  div-lt_iff_lt-mul,
+}
 use native.Mathlib.Omega.{arith}
 use Rattle.quotient.specs.Quotient.{rounded_up}
 use Rattle.quotient.proofs.Laws.{reaches}
@@ -78,7 +89,8 @@ module _ {A K : ℕ} {c : ℕ → ℕ} (steady : Steady A K c) (F : ℕ) (wide :
     one_step_most = omega (arith, one_step, steady.near j below)
 
   -- d steps of t, which may end behind the last piece
-  pub falls_by : (t d : ℕ) → K * F ≤ t → t + d ≤ 2 * K * F → (sum_at K F c (t + d) ≤ sum_at K F c t) × (sum_at K F c t ≤ sum_at K F c (t + d) + d * (2 * A * K))
+  pub falls_by : (t d : ℕ) → K * F ≤ t → t + d ≤ 2 * K * F
+      → (sum_at K F c (t + d) ≤ sum_at K F c t) × (sum_at K F c t ≤ sum_at K F c (t + d) + d * (2 * A * K))
   falls_by t zero least most =
       let none : t + 0 ≡ t = omega arith in
       rw none (le_refl (sum_at K F c t), omega arith)
@@ -95,17 +107,23 @@ module _ {A K : ℕ} {c : ℕ → ℕ} (steady : Steady A K c) (B : ℕ) (units 
   R = reciprocal_at A B K c
 
   module _ (t d : ℕ) (least : K * (B * K) ≤ t) (most : t + d ≤ 2 * K * (B * K)) where
-    sums : (sum_at K (B * K) c (t + d) ≤ sum_at K (B * K) c t) × (sum_at K (B * K) c t ≤ sum_at K (B * K) c (t + d) + d * (2 * A * K))
+    sums : (sum_at K (B * K) c (t + d) ≤ sum_at K (B * K) c t)
+        × (sum_at K (B * K) c t ≤ sum_at K (B * K) c (t + d) + d * (2 * A * K))
     sums = falls_by steady (B * K) (mul-pos steps some) t d least most
 
     -- R never rises with t,
     pub never_rises : R (t + d) ≤ R t
-    never_rises = omega (arith, chopped_more (sum_at K (B * K) c (t + d)) (sum_at K (B * K) c t) 0 (A * (B * K)) (ulp_positive units steps some) (omega (arith, sums.0)))
+    never_rises = omega (
+      arith,
+      chopped_more (sum_at K (B * K) c (t + d)) (sum_at K (B * K) c t) 0 (A * (B * K)) (ulp_positive units steps some)
+          (omega (arith, sums.0)),
+    )
 
     -- and falls by at most any U of ulps that reach 2d / B,
     pub falls_within : (U : ℕ) → 2 * d ≤ U * B → R t ≤ R (t + d) + U
     falls_within U h =
-        chopped_more (sum_at K (B * K) c t) (sum_at K (B * K) c (t + d)) U (A * (B * K)) (ulp_positive units steps some) (omega (arith, sums.1, mul-le-mul_right (A * K) h))
+        chopped_more (sum_at K (B * K) c t) (sum_at K (B * K) c (t + d)) U (A * (B * K)) (ulp_positive units steps some)
+        (omega (arith, sums.1, mul-le-mul_right (A * K) h))
 
     -- so by 2d / B at most, rounded up
     pub falls_limited : R t ≤ R (t + d) + rounded_up (2 * d) B

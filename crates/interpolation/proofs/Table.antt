@@ -1,6 +1,6 @@
--- The one-ulp bound for every table of nodes that keeps a few laws: K pieces, A = 2^a table units to an ulp and B = 2^b steps of t to
--- each 2^(-2k) of the operand. The nodes exceed the exact values by at most E on each piece, and A - E is D. Of the operand only t is
--- spoken of.
+-- The one-ulp bound for every table of nodes that keeps a few laws. There are K pieces, A = 2^a table units to an ulp
+-- and B = 2^b steps of t to each 2^(-2k) of the operand. The nodes exceed the exact values by at most E on each
+-- piece, and A - E is D. Of the operand only t is spoken of.
 -- Assumes nothing.
 use mathlib.Core.Path.{◌≡◌, ap}
 use Prim.Native.Nat.{ℕ, ◌+◌, ◌-◌, ◌*◌, ◌/◌, ◌%◌, ◌≤◌, ◌<◌}
@@ -19,7 +19,8 @@ pub record Table (A B K : ℕ) (c E D : ℕ → ℕ) : Type 0 where
   pub some : 0 < K
   pub nodes : Exceeds A K c E
   pub excess : (j : ℕ) → j < K → E j + D j ≡ A
-  pub room : (j : ℕ) → j < K → A * B * (K * K * K) + 4 * A * (K * K) * (K + j + 1) ≤ 2 * D j * B * ((K + j) * (K + j) * (K + j + 1))
+  pub room : (j : ℕ) → j < K → A * B * (K * K * K) + 4 * A * (K * K) * (K + j + 1)
+      ≤ 2 * D j * B * ((K + j) * (K + j) * (K + j + 1))
 
 -- what the steps of R need of the nodes follows
 pub table_steady : {A B K : ℕ} {c E D : ℕ → ℕ} → Table A B K c E D → Steady A K c
@@ -42,10 +43,12 @@ sum_least c c' F f h l =
     rw (sum_parts c c' F f h l) (omega (arith, mul-le-mul_left (F - f) h, ap (λ (x : ℕ). c' * x) w))
 
 -- the core with the width, the operand and P by their names
-low_at : (M i c c' F f g t P : ℕ) → f + g ≡ F → i * F + f ≡ t → P ≡ c * g + c' * f → 0 < i → M ≤ c * i → M ≤ c' * (i + 1) → M * (F * F) ≤ P * t
+low_at : (M i c c' F f g t P : ℕ) → f + g ≡ F → i * F + f ≡ t → P ≡ c * g + c' * f → 0 < i → M ≤ c * i
+    → M ≤ c' * (i + 1) → M * (F * F) ≤ P * t
 low_at M i c c' F f g t P w e s p h h' = rw (s, ← e, ← w) (core.low M i c c' f g p h h')
 
-high_at : (M i c c' E D F f g t P : ℕ) → f + g ≡ F → i * F + f ≡ t → P ≡ c * g + c' * f → 0 < i → c * i ≤ M + E * i → c' * (i + 1) ≤ M + E * (i + 1)
+high_at : (M i c c' E D F f g t P : ℕ) → f + g ≡ F → i * F + f ≡ t → P ≡ c * g + c' * f → 0 < i → c * i ≤ M + E * i
+    → c' * (i + 1) ≤ M + E * (i + 1)
     → M * F + 4 * M * (i + 1) ≤ 4 * D * (i * i * (i + 1)) * F → P * (t + 1) ≤ M * (F * F) + (E + D) * F * (t + 1)
 high_at M i c c' E D F f g t P w e s p h h' room = rw (s, ← e, ← w) (core.high M i c c' f g E D p h h' (rw w room))
 
@@ -58,7 +61,8 @@ room_at : (A B K D i : ℕ) → A * B * (K * K * K) + 4 * A * (K * K) * (i + 1) 
     → 2 * A * (K * K * K) * (B * K) + 4 * (2 * A * (K * K * K)) * (i + 1) ≤ 4 * D * (i * i * (i + 1)) * (B * K)
 room_at A B K D i h = omega (arith, mul-le-mul_left (2 * K) h)
 
-module _ {A B K : ℕ} {c E D : ℕ → ℕ} (table : Table A B K c E D) (t : ℕ) (least : K * (B * K) ≤ t) (most : t < 2 * K * (B * K)) where
+module _ {A B K : ℕ} {c E D : ℕ → ℕ} (table : Table A B K c E D) (t : ℕ) (least : K * (B * K) ≤ t)
+    (most : t < 2 * K * (B * K)) where
   abbrev j : ℕ
   j = t / (B * K) - K
 
@@ -85,7 +89,8 @@ module _ {A B K : ℕ} {c E D : ℕ → ℕ} (table : Table A B K c E D) (t : �
   whole = omega (arith, pieces.rest_below K (B * K) t wide least most)
 
   sum : P ≡ c j * (B * K - f) + c (j + 1) * f
-  sum = sum_parts (c j) (c (j + 1)) (B * K) f ((table_steady table).falls j below) (omega (arith, pieces.rest_below K (B * K) t wide least most))
+  sum = sum_parts (c j) (c (j + 1)) (B * K) f ((table_steady table).falls j below)
+      (omega (arith, pieces.rest_below K (B * K) t wide least most))
 
   -- no t is 0
   positive : 0 < t
@@ -97,8 +102,10 @@ module _ {A B K : ℕ} {c E D : ℕ → ℕ} (table : Table A B K c E D) (t : �
       core.chopped_low (2 * B * (K * K * K * K)) (A * (B * K)) P R t positive
       (omega (arith, lt-div-mul-add {a = P} unit))
       (rw (exact A B K)
-      (low_at (numerator_of A K) (K + j) (c j) (c (j + 1)) (B * K) f (B * K - f) t P whole (pieces.parts K (B * K) t wide least most) sum
-      (omega (arith, table.some)) (table.nodes.above j (le_of_lt below)) (rw add_assoc (table.nodes.above (j + 1) (omega (arith, below))))))
+      (low_at (numerator_of A K) (K + j) (c j) (c (j + 1)) (B * K) f (B * K - f) t P whole
+      (pieces.parts K (B * K) t wide least most) sum
+      (omega (arith, table.some)) (table.nodes.above j (le_of_lt below))
+      (rw add_assoc (table.nodes.above (j + 1) (omega (arith, below))))))
 
   -- and from above: R × (t + 1) ≤ N + (t + 1)
   pub bound_high : R * (t + 1) ≤ 2 * B * (K * K * K * K) + (t + 1)
@@ -106,5 +113,7 @@ module _ {A B K : ℕ} {c E D : ℕ → ℕ} (table : Table A B K c E D) (t : �
       core.chopped_high (2 * B * (K * K * K * K)) (A * (B * K)) P R t unit
       (div-mul-le_self P (A * (B * K)))
       (rw (exact A B K)
-      (rw (table.excess j below) at (high_at (numerator_of A K) (K + j) (c j) (c (j + 1)) (E j) (D j) (B * K) f (B * K - f) t P whole (pieces.parts K (B * K) t wide least most) sum
-      (omega (arith, table.some)) (table.nodes.left j below) (table.nodes.right j below) (room_at A B K (D j) (K + j) (table.room j below)))))
+      (rw (table.excess j below) at (high_at (numerator_of A K) (K + j) (c j) (c (j + 1)) (E j) (D j) (B * K) f
+      (B * K - f) t P whole (pieces.parts K (B * K) t wide least most) sum
+      (omega (arith, table.some)) (table.nodes.left j below) (table.nodes.right j below)
+      (room_at A B K (D j) (K + j) (table.room j below)))))

@@ -1,4 +1,5 @@
--- The reciprocal of a cut operand t (document 002, Algorithm 2, with document 01's reading of it), at precision k with a table guard bits and b input guard bits.
+-- The reciprocal of a cut operand t at precision k, with a table guard bits and b input guard bits: Das Sarma and
+-- Matula, Algorithm 2, as docs/SCOPE.md, "The reciprocal", reads it.
 -- Assumes nothing.
 use Rattle.std.specs.Prelude.{ℕ, ◌+◌, ◌-◌, ◌*◌, ◌/◌, ◌%◌, ◌^◌}
 use Rattle.nodes.specs.Nodes.{node}
@@ -29,7 +30,8 @@ chopped k a b P = P / 2 ^ (k + (a + b))
 
 -- P of t, by the nodes of the construction
 abbrev pub cut_product_sum : ℕ → ℕ → ℕ → ℕ → ℕ
-cut_product_sum k a b t = product_sum k b (node k a (node_number k b t)) (node k a (node_number k b t + 1)) (fraction k b t)
+cut_product_sum k a b t = product_sum k b (node k a (node_number k b t)) (node k a (node_number k b t + 1))
+    (fraction k b t)
 
 -- R of t
 abbrev pub cut_reciprocal : ℕ → ℕ → ℕ → ℕ → ℕ

@@ -12,7 +12,8 @@ use Rattle.operand.specs.Refusals.{fraction_refusal, operand_refusal}
 use Rattle.interpolation.specs.Algorithm.{node_number}
 use Rattle.interpolation.specs.Reciprocal.{read_reciprocal}
 
--- the refusals of a cut operand t: 6 for the word of node j, then for that of node j + 1, where it has one; in plain words node 2^k has none
+-- The refusals of a cut operand t: 6 for the word of node j, then for that of node j + 1, where it has one.
+-- In plain words node 2^k has none.
 abbrev pub cut_refusals : Format → List ℕ → ℕ → List Refusal
 cut_refusals F s t =
     let j = node_number (precision_of F) (input_bits F) t in
@@ -20,8 +21,10 @@ cut_refusals F s t =
 
 -- the refusals of the reciprocal, in checking order: 1, 18, 2, 4, 5 and 6
 abbrev pub reciprocal_refusals : Format → List ℕ → ℕ → ℕ → List Refusal
-reciprocal_refusals F s n X = limits F (length s) ++ fraction_refusal n ∷ operand_refusal n X ∷ cut_refusals F s (cut_operand (precision_of F) (input_bits F) n X)
+reciprocal_refusals F s n X = limits F (length s) ++ fraction_refusal n ∷ operand_refusal n X
+    ∷ cut_refusals F s (cut_operand (precision_of F) (input_bits F) n X)
 
 -- the answer of the reciprocal; it gives R by the words that it reads, in ulps
 abbrev pub reciprocal_outcome : Format → List ℕ → ℕ → ℕ → Outcome
-reciprocal_outcome F s n X = outcome (reciprocal_refusals F s n X) (read_reciprocal F s (cut_operand (precision_of F) (input_bits F) n X))
+reciprocal_outcome F s n X = outcome (reciprocal_refusals F s n X)
+    (read_reciprocal F s (cut_operand (precision_of F) (input_bits F) n X))

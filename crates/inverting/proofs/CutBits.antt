@@ -11,7 +11,8 @@ use Rattle.operand.proofs.Laws.{cut_leading}
 use Rattle.operand.proofs.Limits.{OperandKept}
 use Rattle.interpolation.specs.Inner.{cut_of}
 
-module _ (k b n X bits : ℕ) (o : OperandKept n X) (few : 2 * k + b ≤ 63) (cut : bits ≡ cut_fraction (2 * k + b) n X) where
+module _ (k b n X bits : ℕ) (o : OperandKept n X) (few : 2 * k + b ≤ 63)
+    (cut : bits ≡ cut_fraction (2 * k + b) n X) where
   are_bits : bits ≡ cut_operand k b n X % 2 ^ (2 * k + b)
   are_bits = cut ∙ rw (le-leb n 63 o.high, le-leb (2 * k + b) 63 few) refl
 

@@ -24,13 +24,15 @@ use Rattle.interpolation.proofs.Answers.{first-wrong, next_wrong, none_wrong}
 use Rattle.inverting.specs.Inner.{both_in, lower_end, upper_end, passes, wrong_at, ends_outcome}
 
 -- the upper of two words in a window
-pub word_above : (f : Form) (k window : ℕ) → k ≤ 12 → window < 2 ^ 64 → both_in (usual f k) window / 2 ^ word_width (usual f k) < 2 ^ word_width (usual f k)
+pub word_above : (f : Form) (k window : ℕ) → k ≤ 12 → window < 2 ^ 64
+    → both_in (usual f k) window / 2 ^ word_width (usual f k) < 2 ^ word_width (usual f k)
 word_above f k window few h =
     let w = word_width (usual f k) in
     let whole : 64 ≡ w + w + (64 - 2 * w) = omega (arith, few, width_most f k 2) in
     shr_lt w w (shr_lt (w + w) (64 - 2 * w) (rw (← whole) h))
 
-module _ (f : Form) (k : ℕ) (s : List ℕ) (t : ℕ) (kept : ImageKept (usual f k) s) (least : 2 ^ (2 * k + 3) ≤ t) (most : t < 2 ^ (2 * k + 4)) (bytes : Bytes s) where
+module _ (f : Form) (k : ℕ) (s : List ℕ) (t : ℕ) (kept : ImageKept (usual f k) s) (least : 2 ^ (2 * k + 3) ≤ t)
+    (most : t < 2 ^ (2 * k + 4)) (bytes : Bytes s) where
   abbrev F : Format
   F = usual f k
 
@@ -44,12 +46,18 @@ module _ (f : Form) (k : ℕ) (s : List ℕ) (t : ℕ) (kept : ImageKept (usual 
   -- the word of node j is judged first, then that of node j + 1, and R is interpolated between what they stand for
   pub ends_of_cut : ends_outcome F both_words (node_number k 3 t) (fraction k 3 t) ≡ cut_outcome F s t
   ends_of_cut =
-      by (passes k 2 (node_number k 3 t) (lower_end F both_words (node_number k 3 t))) (passes k 2 (node_number k 3 t + 1) (upper_end F both_words (node_number k 3 t)))
+      by (passes k 2 (node_number k 3 t) (lower_end F both_words (node_number k 3 t)))
+      (passes k 2 (node_number k 3 t + 1) (upper_end F both_words (node_number k 3 t)))
       (words.lower_tells f k s (node_number k 3 t) kept cut_below (own-bytes F s kept bytes))
       (words.upper_tells f k s (node_number k 3 t) kept cut_below (own-bytes F s kept bytes))
     where
-      by : (a b : Bool) → (word_refusal (table_of F) s (node_number k 3 t)).applies ≡ not a → (word_refusal (table_of F) s (node_number k 3 t + 1)).applies ≡ not b
-          → cond (not a) (wrong_at (node_number k 3 t)) (cond (not b) (wrong_at (node_number k 3 t + 1)) (served (chopped k 2 3 (product_sum k 3 (lower_end F both_words (node_number k 3 t)) (upper_end F both_words (node_number k 3 t)) (fraction k 3 t)))))
+      by : (a b : Bool) → (word_refusal (table_of F) s (node_number k 3 t)).applies ≡ not a
+          → (word_refusal (table_of F) s (node_number k 3 t + 1)).applies ≡ not b
+          → cond (not a) (wrong_at (node_number k 3 t))
+          (cond (not b) (wrong_at (node_number k 3 t + 1))
+          (served (chopped k 2 3
+          (product_sum k 3 (lower_end F both_words (node_number k 3 t)) (upper_end F both_words (node_number k 3 t))
+          (fraction k 3 t)))))
           ≡ cut_outcome F s t
       by false b e d = sym (first-wrong F s t e)
       by true false e d = sym (next_wrong F s t e d)

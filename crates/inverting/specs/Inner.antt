@@ -1,5 +1,5 @@
--- What only inner promises cite: what is asked of the fraction bits of a cut operand and of the nodes at the ends of its piece, and what the words of
--- both, side by side in one number, give for it.
+-- What only inner promises cite: what is asked of the fraction bits of a cut operand and of the nodes at the ends of
+-- its piece, and what the words of both, side by side in one number, give for it.
 -- Assumes nothing.
 use Rattle.std.specs.Prelude.{ℕ, ◌+◌, ◌-◌, ◌*◌, ◌/◌, ◌%◌, ◌^◌, ◌≤◌, ◌<◌, Bool, cond, not, List, length}
 use Rattle.format.specs.Format.{precision_of, table_bits, input_bits, usual, word_width, image_length}

@@ -1,11 +1,12 @@
 // The reciprocal of an operand by an image.
 #![tactic(auto)]
 
-ghost use Rattle.std.specs.Prelude.{◌≡◌, ◌+◌, ◌/◌, ◌%◌, ◌^◌};
+ghost use Rattle.std.specs.Prelude.{◌≡◌, ◌+◌, ◌/◌, ◌%◌, ◌^◌, IfOk};
 ghost use Rattle.answers.specs.Answer.{outcome_of_reciprocal};
-ghost use Rattle.format.specs.Format.{usual, plain_of};
+ghost use Rattle.format.specs.Format.{usual, plain_of, precision_of, table_bits, input_bits};
 ghost use Rattle.nodes.specs.Inner.{quotients_of};
 ghost use Rattle.interpolation.specs.Algorithm.{sum_over};
+ghost use Rattle.interpolation.specs.Reciprocal.{reciprocal, IsWithinUlp};
 ghost use Rattle.interpolation.specs.Calls.{reciprocal_outcome};
 ghost use Rattle.interpolation.specs.Inner.{cut_of, cut_outcome};
 ghost use Rattle.inverting.specs.Inner.{IsCut, IsPiece, IsPieceOf, both_in, ends_outcome};
@@ -17,7 +18,8 @@ use operand::Operand;
 use precision::Precision;
 use units::{TableUnits, Ulps};
 
-// R between the nodes lower and upper: f, of `fraction_bits` bits, is the fraction of their piece, and `chopped_bits` bits of P are chopped off.
+// R between the nodes lower and upper. The fraction of their piece is f, of `fraction_bits` bits, and `chopped_bits`
+// bits of P are chopped off.
 fn interpolated(
     lower: TableUnits,
     upper: TableUnits,
@@ -32,14 +34,16 @@ fn interpolated(
     Ulps(bits::high(sum, chopped_bits))
 }
 
-// The reciprocal of a cut operand, with the usual guard bits, by the words of both ends of its piece, which begins at node j; they stand at the top of the window, and are judged,
-// the lower end first. Of the kept fraction bits the last k + 3 are looked at, which are f.
+// The reciprocal of a cut operand, with the usual guard bits, by the words of both ends of its piece, which begins at
+// node j. They stand at the top of the window, and are judged, the lower end first. Of the kept fraction bits the
+// last k + 3 are looked at, which are f.
 #[inline(always)]
 fn by_ends(form: Form, k: Precision, j: u32, window: u64, kept: u64) -> Result<Ulps, Refused>
     requires { IsPieceOf k.0 j }
-    ensures { outcome_of_reciprocal result ≡ ends_outcome (usual form k.0) (both_in (usual form k.0) window) j (kept % 2 ^ (k.0 + 3)) }
+    ensures { let F = usual form k.0 in
+        outcome_of_reciprocal result ≡ ends_outcome F (both_in F window) j (kept % 2 ^ (k.0 + 3)) }
 {
-    let table = nodes::table(Format::usual(form, k)).ok_or(Refused::Precision)?;
+    let table = nodes::table(Format::usual(form, k))?;
     let both = bits::high(window, 64 - 2 * table.width);
     let Some(lower) = table.judged(j, bits::high(both, table.width) as u32) else {
         return Err(Refused::Word(j));
@@ -57,11 +61,13 @@ fn by_ends(form: Form, k: Precision, j: u32, window: u64, kept: u64) -> Result<U
     ))
 }
 
-// The same in plain words, for each precision by code of its own, in which the compiler has constants to shift by: so the calls stand here one by one,
-// and each takes what this takes.
+// The same in plain words, for each precision by code of its own, in which the compiler has constants to shift by.
+// So the calls stand here one by one, and each takes what this takes. The last arm is for no precision, which `by_ends`
+// turns back and no caller hands on.
 fn by_precision(k: Precision, j: u32, window: u64, kept: u64) -> Result<Ulps, Refused>
     requires { IsPieceOf k.0 j }
-    ensures { outcome_of_reciprocal result ≡ ends_outcome (plain_of k.0) (both_in (plain_of k.0) window) j (kept % 2 ^ (k.0 + 3)) }
+    ensures { let F = plain_of k.0 in
+        outcome_of_reciprocal result ≡ ends_outcome F (both_in F window) j (kept % 2 ^ (k.0 + 3)) }
 {
     match k.0 {
         1 => by_ends(Form::Plain, Precision(1), j, window, kept),
@@ -84,7 +90,8 @@ fn by_precision(k: Precision, j: u32, window: u64, kept: u64) -> Result<Ulps, Re
 #[inline(always)]
 fn by_form(form: Form, k: Precision, j: u32, window: u64, kept: u64) -> Result<Ulps, Refused>
     requires { IsPieceOf k.0 j }
-    ensures { outcome_of_reciprocal result ≡ ends_outcome (usual form k.0) (both_in (usual form k.0) window) j (kept % 2 ^ (k.0 + 3)) }
+    ensures { let F = usual form k.0 in
+        outcome_of_reciprocal result ≡ ends_outcome F (both_in F window) j (kept % 2 ^ (k.0 + 3)) }
 {
     match form {
         Form::Plain => by_precision(k, j, window, kept),
@@ -92,8 +99,9 @@ fn by_form(form: Form, k: Precision, j: u32, window: u64, kept: u64) -> Result<U
     }
 }
 
-// The reciprocal of the cut operand of which these 2k + 3 fraction bits were kept, where precision and image keep their limits; the first k of them are j.
-// The words at both ends of its piece are had in one reading. Plain words have none of node 2^k: behind the last of them, which fill their bytes, zero bits are read, which are
+// The reciprocal of the cut operand of which these 2k + 3 fraction bits were kept, where precision and image keep
+// their limits. The first k of them are j. The words at both ends of its piece are had in one reading.
+// Plain words have none of node 2^k. Behind the last of them, which fill their bytes, zero bits are read, which are
 // judged to be that node.
 #[inline(always)]
 fn of_cut(
@@ -113,7 +121,8 @@ fn of_cut(
     by_form(form, k, j, window, kept)
 }
 
-// The reciprocal of an operand by a table with the usual guard bits: its first 2k + 3 fraction bits decide, zeros where it has fewer.
+// The reciprocal of an operand by a table with the usual guard bits: its first 2k + 3 fraction bits decide, zeros
+// where it has fewer.
 #[inline(always)]
 fn of_operand(form: Form, k: Precision, image: &[u8], operand: Operand) -> Result<Ulps, Refused>
     ensures { outcome_of_reciprocal result ≡ reciprocal_outcome (usual form k.0) image.now operand.n operand.x }
@@ -123,8 +132,9 @@ fn of_operand(form: Form, k: Precision, image: &[u8], operand: Operand) -> Resul
     of_cut(form, k, table, image, operand.cut(2 * k.0 + 3))
 }
 
-// The reciprocal of an operand by any table: one code for all guard bits and precisions, of which each form has its own copy. Both words are read by themselves, since two full words can have
-// 60 bits, and what stands behind the last plain word can be filling bits.
+// The reciprocal of an operand by any table: one code for all guard bits and precisions, of which each form has its
+// own copy. Both words are read by themselves, since two full words can have 60 bits, and what stands behind the last
+// plain word can be filling bits.
 #[inline(always)]
 fn by_nodes(format: Format, image: &[u8], operand: Operand) -> Result<Ulps, Refused>
     ensures { outcome_of_reciprocal result ≡ reciprocal_outcome format image.now operand.n operand.x }
@@ -151,9 +161,15 @@ fn by_nodes(format: Format, image: &[u8], operand: Operand) -> Result<Ulps, Refu
     ))
 }
 
-// The reciprocal of an operand. Each form has code of its own, in which the compiler knows it, and with the usual guard bits knows these too.
+// The reciprocal of an operand. Where one is given it is R, and R is within an ulp.
+// Each form has code of its own, in which the compiler knows it, and with the usual guard bits knows these too.
+// The choice stands here as in `reading` and `checking`. A function that they share would take the call as a closure,
+// and be open only with a `requires` that this may be called, which no open call here has.
 pub fn reciprocal(format: Format, image: &[u8], operand: Operand) -> Result<Ulps, Refused>
-    ensures { outcome_of_reciprocal result ≡ reciprocal_outcome format image.now operand.n operand.x }
+    ensures outcome { outcome_of_reciprocal result ≡ reciprocal_outcome format image.now operand.n operand.x }
+    ensures value { IfOk result
+        (λ R. R.0 ≡ reciprocal (precision_of format) (table_bits format) (input_bits format) operand.n operand.x) }
+    ensures within_ulp { IfOk result (λ R. IsWithinUlp (precision_of format) operand.n operand.x R.0) }
 {
     if format.guard_bits.are_usual() {
         return match format.form {

@@ -1,12 +1,23 @@
-// The library for C and Rust: its calls under one prefix, over plain numbers and lent bytes. Each promises of its answer and of the lent bytes what
-// the call beneath it does. A table is asked for by the numbers of its format. C has no Option: where there is no image and no node, 0 is handed out.
+// The library for C and Rust: its calls under one prefix, over plain numbers and lent bytes. Each promises of its
+// answer and of the lent bytes what the call beneath it does. A table is asked for by the numbers of its format. C
+// has no Option: where there is no image and no node, 0 is handed out.
 #![tactic(auto)]
 
-ghost use Rattle.std.specs.Prelude.{◌≡◌};
+ghost use Rattle.std.specs.Prelude.{◌≡◌, ◌↔◌};
+ghost use Rattle.answers.specs.Refusal.{served};
 ghost use Rattle.answers.specs.Answer.{done, node_read, reciprocal_given, part};
-ghost use Rattle.format.specs.Format.{format_of, length_or_0};
-ghost use Rattle.nodes.specs.Nodes.{node_or_0};
-ghost use Rattle.image.specs.Calls.{build_outcome, build_leaves, check_outcome, node_outcome, shown_from, shown_count};
+ghost use Rattle.format.specs.Format.{format_of, length_or_0, precision_of, table_bits, input_bits};
+ghost use Rattle.nodes.specs.Nodes.{node, node_or_0};
+ghost use Rattle.image.specs.Calls.{
+  build_outcome,
+  build_leaves,
+  check_outcome,
+  node_outcome,
+  IsFullRom,
+  shown_from,
+  shown_count,
+};
+ghost use Rattle.interpolation.specs.Reciprocal.{reciprocal, IsWithinUlp};
 ghost use Rattle.interpolation.specs.Calls.{reciprocal_outcome};
 
 use answers::{Done, NodeRead, Part, ReciprocalGiven};
@@ -27,15 +38,17 @@ pub extern "C" fn yildegga_image_length(format: FormatNumbers) -> usize
 pub extern "C" fn yildegga_build(format: FormatNumbers, image: &mut [u8]) -> Done
     ensures value { result ≡ done (build_outcome (format_of format) image.old) }
     ensures image_after { image.new ≡ build_leaves (format_of format) image.old }
+    ensures passes { result.number ≡ 0 → check_outcome (format_of format) image.new ≡ served 0 }
 {
     building::build(format.into(), image).into()
 }
 
-// Whether every word of the image is the construction's and all bits behind the last one are zero. The place of refusal 6 is the lowest node of a wrong
-// word, that of refusal 7 the lowest byte with a one behind the last word.
+// Whether every word of the image is the construction's and all bits behind the last one are zero. The place of
+// refusal 6 is the lowest node of a wrong word, that of refusal 7 the lowest byte with a one behind the last word.
 #[unsafe(no_mangle)]
 pub extern "C" fn yildegga_check(format: FormatNumbers, image: &[u8]) -> Done
-    ensures { result ≡ done (check_outcome (format_of format) image.now) }
+    ensures outcome { result ≡ done (check_outcome (format_of format) image.now) }
+    ensures passes { (result.number ≡ 0) ↔ IsFullRom (format_of format) image.now }
 {
     checking::check(format.into(), image).into()
 }
@@ -43,7 +56,9 @@ pub extern "C" fn yildegga_check(format: FormatNumbers, image: &[u8]) -> Done
 // The value of node j.
 #[unsafe(no_mangle)]
 pub extern "C" fn yildegga_node(format: FormatNumbers, image: &[u8], j: u32) -> NodeRead
-    ensures { result ≡ node_read (node_outcome (format_of format) image.now j) }
+    ensures outcome { result ≡ node_read (node_outcome (format_of format) image.now j) }
+    ensures value { let F = format_of format in
+        result.number ≡ 0 → result.value.0 ≡ node (precision_of F) (table_bits F) j }
 {
     reading::node(format.into(), image, j).into()
 }
@@ -72,7 +87,10 @@ pub extern "C" fn yildegga_reciprocal(
     n: u32,
     x: u64,
 ) -> ReciprocalGiven
-    ensures { result ≡ reciprocal_given (reciprocal_outcome (format_of format) image.now n x) }
+    ensures outcome { result ≡ reciprocal_given (reciprocal_outcome (format_of format) image.now n x) }
+    ensures value { let F = format_of format in
+        result.number ≡ 0 → result.value.0 ≡ reciprocal (precision_of F) (table_bits F) (input_bits F) n x }
+    ensures within_ulp { result.number ≡ 0 → IsWithinUlp (precision_of (format_of format)) n x result.value.0 }
 {
     inverting::reciprocal(format.into(), image, Operand { n, x }).into()
 }

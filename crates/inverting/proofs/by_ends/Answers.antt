@@ -1,5 +1,5 @@
--- `inverting::by_ends` meets its contract: the upper word is decoded and judged for node j, then the lower one for node j + 1, and R is interpolated
--- between them.
+-- `inverting::by_ends` meets its contract: the upper word is decoded and judged for node j, then the lower one for
+-- node j + 1, and R is interpolated between them.
 -- Assumes nothing.
 use mathlib.Core.Path.{◌≡◌, refl, sym, ap, ap₂, ◌∙◌}
 use mathlib.Core.Bool.{true}
@@ -7,38 +7,30 @@ use Prim.Native.Nat.{ℕ, ◌+◌, ◌-◌, ◌*◌, ◌/◌, ◌%◌, ◌^◌, 
 use native.Mathlib.Nat.{mod-lt}
 use native.Mathlib.Omega.{arith}
 use lib.Pow.{pow_mono, pow_pos}
-use Rattle.std.proofs.Common.{Some, Ok}
-use Rattle.std.specs.Option.{ok_or}
+use Rattle.std.proofs.Common.{Some}
 use Rattle.units.specs.declared.TableUnits.{TableUnits}
 use Rattle.bools.proofs.Bools.{given, not_given}
-use Rattle.format.specs.Format.{usual, word_width, is_offered}
+use Rattle.format.specs.Format.{usual, word_width}
 use Rattle.format.specs.declared.Form.{Form}
 use Rattle.format.specs.declared.Format.{Format}
-use Rattle.format.proofs.Laws.{width_most, usual_offered}
+use Rattle.format.proofs.Laws.{width_most}
 use Rattle.nodes.specs.Nodes.{node}
-use Rattle.nodes.specs.Inner.{quotients_of, quotients_there, judged_word}
+use Rattle.nodes.specs.Inner.{quotients_of, judged_word}
 use Rattle.nodes.specs.declared.Quotients.{Quotients}
 use Rattle.nodes.proofs.Nodes.{node_most, node_ordered, passed_is_node}
 use Rattle.nodes.proofs.Forms.{judged_is, given_where}
 use Rattle.answers.specs.Refusal.{served}
-use Rattle.answers.specs.declared.Refused.TheVariants.{Precision}
 use Rattle.interpolation.specs.Algorithm.{product_sum, chopped}
 use Rattle.interpolation.proofs.Cut.{product_most}
 use Rattle.inverting.specs.Inner.{IsPiece, IsPieceOf, both_in, lower_end, upper_end, passes, ends_outcome}
 use Rattle.inverting.proofs.Ends.{word_above}
 use Rattle.inverting.proofs.by_ends.Goals as goal
 
--- the table that the code has is that of the format
-table_is : (F : Format) {q : Quotients} → is_offered F ≡ true → ok_or (quotients_there F) Precision ≡ Ok q → q ≡ quotients_of F
-table_is F {q} r e = let own : Ok (quotients_of F) ≡ Ok q = rw r at e in cc
-
 -- the format, the node, the window and the table
-module _ (form : Form) (k : ℕ) (j window : ℕ) (p : IsPieceOf k j) (fits : window < 2 ^ 64) {q : Quotients} (was : ok_or (quotients_there (usual form k)) Precision ≡ Ok q) where
+module _ (form : Form) (k : ℕ) (j window : ℕ) (p : IsPieceOf k j) (fits : window < 2 ^ 64) {q : Quotients}
+    (table : q ≡ quotients_of (usual form k)) where
   abbrev F : Format
   F = usual form k
-
-  table : q ≡ quotients_of F
-  table = table_is F (usual_offered form k p.low p.high) was
 
   -- both words
   abbrev both : ℕ
@@ -64,18 +56,23 @@ module _ (form : Form) (k : ℕ) (j window : ℕ) (p : IsPieceOf k j) (fits : wi
           omega (arith, first_word e, word_above form k window p.high fits, narrow)
 
       -- what is given for the first is its value where that passes, and so for the second
-      lower : y ≡ x / 2 ^ q.width → judged_word q j y ≡ given_where (passes k 2 j (lower_end F both j)) (lower_end F both j)
+      lower : y ≡ x / 2 ^ q.width
+          → judged_word q j y ≡ given_where (passes k 2 j (lower_end F both j)) (lower_end F both j)
       lower e =
           ap₂ (λ (t : Quotients) (w : ℕ). judged_word t j w) table (first_word e)
-          ∙ judged_is F p.high (omega arith) j (both / 2 ^ word_width F) (omega (arith, p.below)) (word_above form k window p.high fits)
+          ∙ judged_is F p.high (omega arith) j (both / 2 ^ word_width F) (omega (arith, p.below))
+          (word_above form k window p.high fits)
 
-      upper : y ≡ x % 2 ^ q.width → judged_word q (j + 1) y ≡ given_where (passes k 2 (j + 1) (upper_end F both j)) (upper_end F both j)
+      upper : y ≡ x % 2 ^ q.width
+          → judged_word q (j + 1) y ≡ given_where (passes k 2 (j + 1) (upper_end F both j)) (upper_end F both j)
       upper e =
           ap₂ (λ (t : Quotients) (w : ℕ). judged_word t (j + 1) w) table (second_word e)
-          ∙ judged_is F p.high (omega arith) (j + 1) (both % 2 ^ word_width F) (omega (arith, p.below)) (mod-lt both (pow_pos (word_width F)))
+          ∙ judged_is F p.high (omega arith) (j + 1) (both % 2 ^ word_width F) (omega (arith, p.below))
+          (mod-lt both (pow_pos (word_width F)))
 
   -- where both are given, they are the ends, and the nodes, which fall from the one to the other
-  module _ {a b : ℕ} (low : (passes k 2 j (lower_end F both j) ≡ true) × (lower_end F both j ≡ a)) (high : (passes k 2 (j + 1) (upper_end F both j) ≡ true) × (upper_end F both j ≡ b)) where
+  module _ {a b : ℕ} (low : (passes k 2 j (lower_end F both j) ≡ true) × (lower_end F both j ≡ a))
+      (high : (passes k 2 (j + 1) (upper_end F both j) ≡ true) × (upper_end F both j ≡ b)) where
     low-is-node : a ≡ node k 2 j
     low-is-node = sym low.1 ∙ passed_is_node k 2 j (lower_end F both j) low.0
 
@@ -102,7 +99,8 @@ module _ (form : Form) (k : ℕ) (j window : ℕ) (p : IsPieceOf k j) (fits : wi
           }
 
       -- and R is interpolated between them
-      served_R : {R : ℕ} → R ≡ chopped k 2 3 (product_sum k 3 a b f) → served R ≡ ends_outcome F both j (kept % 2 ^ (k + 3))
+      served_R : {R : ℕ} → R ≡ chopped k 2 3 (product_sum k 3 a b f)
+          → served R ≡ ends_outcome F both j (kept % 2 ^ (k + 3))
       served_R e =
           ap served
           (e ∙ ap₂ (λ (x y : ℕ). chopped k 2 3 (product_sum k 3 x y f)) (sym low.1) (sym high.1)
@@ -112,15 +110,20 @@ module _ (form : Form) (k : ℕ) (j window : ℕ) (p : IsPieceOf k j) (fits : wi
 pub overflow_cast-high : goal.overflow_cast-high
 overflow_cast-high c =
     let a = c.args in
-    record { fits = first-fits a.form a.k.0 a.j a.window c.requires (omega arith) (sym (c.ok_or.ensures.value ∙ ap (λ o. ok_or o Precision) (c.table.ensures ∙ ap quotients_there c.usual.ensures)) ∙ c.in_ok-table.was) c.high-both.ensures c.high.ensures }
+    record {
+      fits = first-fits a.form a.k.0 a.j a.window c.requires (omega arith)
+          (c.in_ok-table.ensures.numbers ∙ ap quotients_of c.usual.ensures) c.high-both.ensures c.high.ensures;
+    }
 
 -- the first word is judged first
 pub returns-in_default : goal.returns-in_default
 returns-in_default c =
     let a = c.args in
     let both = both_in (usual a.form a.k.0) a.window in
-    let low = lower a.form a.k.0 a.j a.window c.requires (omega arith) (sym (c.ok_or.ensures.value ∙ ap (λ o. ok_or o Precision) (c.table.ensures ∙ ap quotients_there c.usual.ensures)) ∙ c.in_ok-table.was) c.high-both.ensures c.high.ensures in
-    let fails = not_given (passes a.k.0 2 a.j (lower_end (usual a.form a.k.0) both a.j)) _ (sym c.in_default.is ∙ c.judged.ensures ∙ low) in
+    let low = lower a.form a.k.0 a.j a.window c.requires (omega arith)
+    (c.in_ok-table.ensures.numbers ∙ ap quotients_of c.usual.ensures) c.high-both.ensures c.high.ensures in
+    let fails = not_given (passes a.k.0 2 a.j (lower_end (usual a.form a.k.0) both a.j)) _
+    (sym c.in_default.is ∙ c.judged.ensures ∙ low) in
     rw fails refl
 
 -- and then the second
@@ -128,40 +131,54 @@ pub returns-in_default-judged : goal.returns-in_default-judged
 returns-in_default-judged c =
     let a = c.args in
     let both = both_in (usual a.form a.k.0) a.window in
-    let was = sym (c.ok_or.ensures.value ∙ ap (λ o. ok_or o Precision) (c.table.ensures ∙ ap quotients_there c.usual.ensures)) ∙ c.in_ok-table.was in
-    let low = lower a.form a.k.0 a.j a.window c.requires (omega arith) was c.high-both.ensures c.high.ensures in
-    let high = upper a.form a.k.0 a.j a.window c.requires (omega arith) was c.high-both.ensures c.low.ensures in
-    let passed = (given (passes a.k.0 2 a.j (lower_end (usual a.form a.k.0) both a.j)) _ _ (sym c.in-Some.is ∙ c.judged.ensures ∙ low)).0 in
-    let fails = not_given (passes a.k.0 2 (a.j + 1) (upper_end (usual a.form a.k.0) both a.j)) _ (sym c.in_default-judged.is ∙ c.judged-2.ensures ∙ high) in
+    let table = c.in_ok-table.ensures.numbers ∙ ap quotients_of c.usual.ensures in
+    let low = lower a.form a.k.0 a.j a.window c.requires (omega arith) table c.high-both.ensures c.high.ensures in
+    let high = upper a.form a.k.0 a.j a.window c.requires (omega arith) table c.high-both.ensures c.low.ensures in
+    let passed = (given (passes a.k.0 2 a.j (lower_end (usual a.form a.k.0) both a.j)) _ _
+    (sym c.in-Some.is ∙ c.judged.ensures ∙ low)).0 in
+    let fails = not_given (passes a.k.0 2 (a.j + 1) (upper_end (usual a.form a.k.0) both a.j)) _
+    (sym c.in_default-judged.is ∙ c.judged-2.ensures ∙ high) in
     rw (passed, fails) refl
 
 -- behind both tests
-module _ (form : Form) (k : ℕ) (j window : ℕ) (p : IsPieceOf k j) (fits : window < 2 ^ 64) {q : Quotients} (was : ok_or (quotients_there (usual form k)) Precision ≡ Ok q) {x y y' : ℕ} {a b : TableUnits}
-    (have : x ≡ window / 2 ^ (64 - 2 * q.width)) (first : y ≡ x / 2 ^ q.width) (second : y' ≡ x % 2 ^ q.width) (told : Some a ≡ judged_word q j y) (told-too : Some b ≡ judged_word q (j + 1) y') where
-  low_end : (passes k 2 j (lower_end (usual form k) (both_in (usual form k) window) j) ≡ true) × (lower_end (usual form k) (both_in (usual form k) window) j ≡ a.0)
+module _ (form : Form) (k : ℕ) (j window : ℕ) (p : IsPieceOf k j) (fits : window < 2 ^ 64) {q : Quotients}
+    (table : q ≡ quotients_of (usual form k)) {x y y' : ℕ} {a b : TableUnits}
+    (have : x ≡ window / 2 ^ (64 - 2 * q.width)) (first : y ≡ x / 2 ^ q.width) (second : y' ≡ x % 2 ^ q.width)
+    (told : Some a ≡ judged_word q j y) (told-too : Some b ≡ judged_word q (j + 1) y') where
+  low_end : (passes k 2 j (lower_end (usual form k) (both_in (usual form k) window) j) ≡ true)
+      × (lower_end (usual form k) (both_in (usual form k) window) j ≡ a.0)
   low_end =
-      let s = given (passes k 2 j (lower_end (usual form k) (both_in (usual form k) window) j)) _ _ (told ∙ lower form k j window p fits was have first) in
+      let s = given (passes k 2 j (lower_end (usual form k) (both_in (usual form k) window) j)) _ _
+      (told ∙ lower form k j window p fits table have first) in
       (s.0, ap (λ (c : TableUnits). c.0) (sym s.1))
 
-  high_end : (passes k 2 (j + 1) (upper_end (usual form k) (both_in (usual form k) window) j) ≡ true) × (upper_end (usual form k) (both_in (usual form k) window) j ≡ b.0)
+  high_end : (passes k 2 (j + 1) (upper_end (usual form k) (both_in (usual form k) window) j) ≡ true)
+      × (upper_end (usual form k) (both_in (usual form k) window) j ≡ b.0)
   high_end =
-      let s = given (passes k 2 (j + 1) (upper_end (usual form k) (both_in (usual form k) window) j)) _ _ (told-too ∙ upper form k j window p fits was have second) in
+      let s = given (passes k 2 (j + 1) (upper_end (usual form k) (both_in (usual form k) window) j)) _ _
+      (told-too ∙ upper form k j window p fits table have second) in
       (s.0, ap (λ (c : TableUnits). c.0) (sym s.1))
 
 pub interpolated-requires : goal.interpolated-requires
 interpolated-requires c =
     let a = c.args in
-    let was = sym (c.ok_or.ensures.value ∙ ap (λ o. ok_or o Precision) (c.table.ensures ∙ ap quotients_there c.usual.ensures)) ∙ c.in_ok-table.was in
+    let table = c.in_ok-table.ensures.numbers ∙ ap quotients_of c.usual.ensures in
     let told = sym c.in-Some.is ∙ c.judged.ensures in
     let told-too = sym c.in-Some-judged.is ∙ c.judged-2.ensures in
-    is_piece a.form a.k.0 a.j a.window c.requires (omega arith) was (low_end a.form a.k.0 a.j a.window c.requires (omega arith) was c.high-both.ensures c.high.ensures c.low.ensures told told-too)
-    (high_end a.form a.k.0 a.j a.window c.requires (omega arith) was c.high-both.ensures c.high.ensures c.low.ensures told told-too) a.kept c.low-2.ensures
+    is_piece a.form a.k.0 a.j a.window c.requires (omega arith) table
+    (low_end a.form a.k.0 a.j a.window c.requires (omega arith) table c.high-both.ensures c.high.ensures
+    c.low.ensures told told-too)
+    (high_end a.form a.k.0 a.j a.window c.requires (omega arith) table c.high-both.ensures c.high.ensures c.low.ensures
+    told told-too) a.kept c.low-2.ensures
 
 pub returns : goal.returns
 returns c =
     let a = c.args in
-    let was = sym (c.ok_or.ensures.value ∙ ap (λ o. ok_or o Precision) (c.table.ensures ∙ ap quotients_there c.usual.ensures)) ∙ c.in_ok-table.was in
+    let table = c.in_ok-table.ensures.numbers ∙ ap quotients_of c.usual.ensures in
     let told = sym c.in-Some.is ∙ c.judged.ensures in
     let told-too = sym c.in-Some-judged.is ∙ c.judged-2.ensures in
-    served_R a.form a.k.0 a.j a.window c.requires (omega arith) was (low_end a.form a.k.0 a.j a.window c.requires (omega arith) was c.high-both.ensures c.high.ensures c.low.ensures told told-too)
-    (high_end a.form a.k.0 a.j a.window c.requires (omega arith) was c.high-both.ensures c.high.ensures c.low.ensures told told-too) a.kept c.low-2.ensures c.interpolated.ensures
+    served_R a.form a.k.0 a.j a.window c.requires (omega arith) table
+    (low_end a.form a.k.0 a.j a.window c.requires (omega arith) table c.high-both.ensures c.high.ensures
+    c.low.ensures told told-too)
+    (high_end a.form a.k.0 a.j a.window c.requires (omega arith) table c.high-both.ensures c.high.ensures c.low.ensures
+    told told-too) a.kept c.low-2.ensures c.interpolated.ensures

@@ -10,10 +10,12 @@ pub returns-in-Plain : goal.returns-in-Plain
 returns-in-Plain c =
     let a = c.args in
     c.by_precision.ensures
-    ∙ ap (λ (f : Form). ends_outcome (usual f a.k.0) (both_in (usual f a.k.0) a.window) a.j (a.kept % 2 ^ (a.k.0 + 3))) (sym c.in-Plain.is)
+    ∙ ap (λ (f : Form). ends_outcome (usual f a.k.0) (both_in (usual f a.k.0) a.window) a.j (a.kept % 2 ^ (a.k.0 + 3)))
+    (sym c.in-Plain.is)
 
 pub returns-in-Full : goal.returns-in-Full
 returns-in-Full c =
     let a = c.args in
     c.by_ends.ensures
-    ∙ ap (λ (f : Form). ends_outcome (usual f a.k.0) (both_in (usual f a.k.0) a.window) a.j (a.kept % 2 ^ (a.k.0 + 3))) (sym c.in-Full.is)
+    ∙ ap (λ (f : Form). ends_outcome (usual f a.k.0) (both_in (usual f a.k.0) a.window) a.j (a.kept % 2 ^ (a.k.0 + 3)))
+    (sym c.in-Full.is)

@@ -1,4 +1,5 @@
--- `inverting::by_nodes` meets its contract: the limits, the word of node j, that of node j + 1, and R between what they stand for.
+-- `inverting::by_nodes` meets its contract: the limits, the word of node j, that of node j + 1, and R between what
+-- they stand for.
 -- Assumes nothing.
 use mathlib.Core.Path.{◌≡◌, refl, sym, ap, ap₂, ◌∙◌}
 use mathlib.Core.Bool.{Bool, true, false}
@@ -44,12 +45,14 @@ none_is : (F : Format) (s : List ℕ) (j : ℕ) (wrong : Bool) → None ≡ give
 none_is F s j true e = refl
 none_is F s j false e = cc
 
-some_is : (F : Format) (s : List ℕ) (j : ℕ) {c : TableUnits} (wrong : Bool) → Some c ≡ given_node F s j wrong → (wrong ≡ false) × (c ≡ record { 0 = node_of F s j })
+some_is : (F : Format) (s : List ℕ) (j : ℕ) {c : TableUnits} (wrong : Bool) → Some c ≡ given_node F s j wrong
+    → (wrong ≡ false) × (c ≡ record { 0 = node_of F s j })
 some_is F s j true e = cc
 some_is F s j false e = (refl, cc)
 
 -- behind the tests of the limits
-module _ (F : Format) (s : List ℕ) (n X : ℕ) (clear : some_applies (limits F (length s)) ≡ false) (clear-too : some_applies (operand_refusals n X) ≡ false) where
+module _ (F : Format) (s : List ℕ) (n X : ℕ) (clear : some_applies (limits F (length s)) ≡ false)
+    (clear-too : some_applies (operand_refusals n X) ≡ false) where
   abbrev k : ℕ
   k = precision_of F
 
@@ -85,29 +88,36 @@ module _ (F : Format) (s : List ℕ) (n X : ℕ) (clear : some_applies (limits F
 
       -- what the table gives for the nodes at both ends
       module _ {q : Quotients} {own : List ℕ} (table : q ≡ quotients_of F) (is-own : own ≡ own_bytes F s) where
-        at_lower : {o : Option TableUnits} → o ≡ node_in_bytes q own j → o ≡ given_node F s (node_number k b t) (word_refusal (table_of F) s (node_number k b t)).applies
+        at_lower : {o : Option TableUnits} → o ≡ node_in_bytes q own j
+            → o ≡ given_node F s (node_number k b t) (word_refusal (table_of F) s (node_number k b t)).applies
         at_lower e =
-            e ∙ ap₂ (λ (q : Quotients) (l : List ℕ). node_in_bytes q l j) table is-own ∙ ap (node_in_bytes (quotients_of F) (own_bytes F s)) is_number
+            e ∙ ap₂ (λ (q : Quotients) (l : List ℕ). node_in_bytes q l j) table is-own
+            ∙ ap (node_in_bytes (quotients_of F) (own_bytes F s)) is_number
             ∙ own_node F s (node_number k b t) kept (le_of_lt below)
 
-        at_upper : {o : Option TableUnits} → o ≡ node_in_bytes q own (j + 1) → o ≡ given_node F s (node_number k b t + 1) (word_refusal (table_of F) s (node_number k b t + 1)).applies
+        at_upper : {o : Option TableUnits} → o ≡ node_in_bytes q own (j + 1)
+            → o ≡ given_node F s (node_number k b t + 1) (word_refusal (table_of F) s (node_number k b t + 1)).applies
         at_upper e =
-            e ∙ ap₂ (λ (q : Quotients) (l : List ℕ). node_in_bytes q l (j + 1)) table is-own ∙ ap (λ (i : ℕ). node_in_bytes (quotients_of F) (own_bytes F s) (i + 1)) is_number
+            e ∙ ap₂ (λ (q : Quotients) (l : List ℕ). node_in_bytes q l (j + 1)) table is-own
+            ∙ ap (λ (i : ℕ). node_in_bytes (quotients_of F) (own_bytes F s) (i + 1)) is_number
             ∙ own_node F s (node_number k b t + 1) kept (omega (arith, below))
 
         -- none for the first
-        refused_lower : None ≡ node_in_bytes q own j → record { number = 6; place = j; value = 0 } ≡ reciprocal_outcome F s n X
+        refused_lower : None ≡ node_in_bytes q own j
+            → record { number = 6; place = j; value = 0 } ≡ reciprocal_outcome F s n X
         refused_lower e =
             ap (λ (i : ℕ). record { number = 6; place = i; value = 0 }) is_number
             ∙ sym (first-wrong F s t (none_is F s (node_number k b t) _ (at_lower e)))
             ∙ answer_of_cut F s n X clear clear-too
 
         module _ {c : TableUnits} (lower : Some c ≡ node_in_bytes q own j) where
-          first : ((word_refusal (table_of F) s (node_number k b t)).applies ≡ false) × (c ≡ record { 0 = node_of F s (node_number k b t) })
+          first : ((word_refusal (table_of F) s (node_number k b t)).applies ≡ false)
+              × (c ≡ record { 0 = node_of F s (node_number k b t) })
           first = some_is F s (node_number k b t) _ (at_lower lower)
 
           -- none for the second
-          refused_upper : None ≡ node_in_bytes q own (j + 1) → record { number = 6; place = j + 1; value = 0 } ≡ reciprocal_outcome F s n X
+          refused_upper : None ≡ node_in_bytes q own (j + 1)
+              → record { number = 6; place = j + 1; value = 0 } ≡ reciprocal_outcome F s n X
           refused_upper e =
               ap (λ (i : ℕ). record { number = 6; place = i + 1; value = 0 }) is_number
               ∙ sym (next_wrong F s t first.0 (none_is F s (node_number k b t + 1) _ (at_upper e)))
@@ -115,19 +125,26 @@ module _ (F : Format) (s : List ℕ) (n X : ℕ) (clear : some_applies (limits F
 
           -- both are given
           module _ {c' : TableUnits} (upper : Some c' ≡ node_in_bytes q own (j + 1)) where
-            second : ((word_refusal (table_of F) s (node_number k b t + 1)).applies ≡ false) × (c' ≡ record { 0 = node_of F s (node_number k b t + 1) })
+            second : ((word_refusal (table_of F) s (node_number k b t + 1)).applies ≡ false)
+                × (c' ≡ record { 0 = node_of F s (node_number k b t + 1) })
             second = some_is F s (node_number k b t + 1) _ (at_upper upper)
 
             low-is : c.0 ≡ node k a (node_number k b t)
             low-is = ap (λ (c : TableUnits). c.0) first.1 ∙ right_node F s (node_number k b t) (le_of_lt below) first.0
 
             high-is : c'.0 ≡ node k a (node_number k b t + 1)
-            high-is = ap (λ (c : TableUnits). c.0) second.1 ∙ right_node F s (node_number k b t + 1) (omega (arith, below)) second.0
+            high-is = ap (λ (c : TableUnits). c.0) second.1
+                ∙ right_node F s (node_number k b t + 1) (omega (arith, below)) second.0
 
             product : c.0 * 2 ^ (k + b) ≤ 2 ^ 46
             product =
-                let top : 3 * k + (a + b + 1) ≤ 46 = omega (arith, kept.high, kept.guard.table_most, kept.guard.input_most) in
-                omega (arith, product_most k a b c.0 (omega (arith, low-is, node_most k a (node_number k b t))), pow_mono top)
+                let top : 3 * k + (a + b + 1) ≤ 46 =
+                omega (arith, kept.high, kept.guard.table_most, kept.guard.input_most) in
+                omega (
+                  arith,
+                  product_most k a b c.0 (omega (arith, low-is, node_most k a (node_number k b t))),
+                  pow_mono top,
+                )
 
             module _ {f : ℕ} (low : f ≡ bits % 2 ^ (k + b)) where
               is_piece : IsPiece c.0 c'.0 f (k + b)
@@ -135,20 +152,28 @@ module _ (F : Format) (s : List ℕ) (n X : ℕ) (clear : some_applies (limits F
                   record {
                     small = omega (arith, kept.high, kept.guard.input_most);
                     fits = omega (arith, product);
-                    falls = omega (arith, low-is, high-is, node_ordered k a {i = node_number k b t} {j = node_number k b t + 1} (omega arith));
+                    falls = omega (
+                      arith,
+                      low-is,
+                      high-is,
+                      node_ordered k a {i = node_number k b t} {j = node_number k b t + 1} (omega arith),
+                    );
                     inside = omega (arith, low, mod-lt bits (pow_pos (k + b)));
                   }
 
               is_fraction : f ≡ fraction k b t
               is_fraction = low ∙ sym (bits_fraction k b bits) ∙ ap (fraction k b) all
 
-              served_R : {R : ℕ} → R ≡ sum_over (2 ^ (k + b)) c.0 c'.0 f / 2 ^ (k + b + a) → served R ≡ reciprocal_outcome F s n X
+              served_R : {R : ℕ} → R ≡ sum_over (2 ^ (k + b)) c.0 c'.0 f / 2 ^ (k + b + a)
+                  → served R ≡ reciprocal_outcome F s n X
               served_R e =
                   ap served
                   (e
-                  ∙ ap (λ (x : ℕ). sum_over (2 ^ (k + b)) c.0 c'.0 f / 2 ^ x) {x = k + b + a} {y = k + (a + b)} (omega arith)
+                  ∙ ap (λ (x : ℕ). sum_over (2 ^ (k + b)) c.0 c'.0 f / 2 ^ x) {x = k + b + a} {y = k + (a + b)}
+                  (omega arith)
                   ∙ ap₂ (λ (x y : TableUnits). sum_over (2 ^ (k + b)) x.0 y.0 f / 2 ^ (k + (a + b))) first.1 second.1
-                  ∙ ap (λ (x : ℕ). sum_over (2 ^ (k + b)) (node_of F s (node_number k b t)) (node_of F s (node_number k b t + 1)) x / 2 ^ (k + (a + b))) is_fraction)
+                  ∙ ap (λ (x : ℕ). sum_over (2 ^ (k + b)) (node_of F s (node_number k b t))
+                  (node_of F s (node_number k b t + 1)) x / 2 ^ (k + (a + b))) is_fraction)
                   ∙ sym (none_wrong F s t first.0 second.0)
                   ∙ answer_of_cut F s n X clear clear-too
 
@@ -156,26 +181,39 @@ pub returns-in_default : goal.returns-in_default
 returns-in_default c =
     let a = c.args in
     let s = a.image.now in
-    refused_lower a.format s a.operand.n a.operand.x (limit_clear a.format s c.in_ok-table.ensures.refusals) (operand_clear a.operand.n a.operand.x c.in_ok-limits.ensures.value)
-    c.cut-kept.ensures c.high-j.ensures c.in_ok-table.ensures.numbers (c.own_bytes-own.ensures.bytes ∙ ap (λ (q : Quotients). front_of q s) c.in_ok-table.ensures.numbers) (sym c.in_default.is ∙ c.node.ensures)
+    refused_lower a.format s a.operand.n a.operand.x (limit_clear a.format s c.in_ok-table.ensures.refusals)
+    (operand_clear a.operand.n a.operand.x c.in_ok-limits.ensures.value)
+    c.cut-kept.ensures c.high-j.ensures c.in_ok-table.ensures.numbers
+    (c.own_bytes-own.ensures.bytes ∙ ap (λ (q : Quotients). front_of q s) c.in_ok-table.ensures.numbers)
+    (sym c.in_default.is ∙ c.node.ensures)
 
 pub returns-in_default-node : goal.returns-in_default-node
 returns-in_default-node c =
     let a = c.args in
     let s = a.image.now in
-    refused_upper a.format s a.operand.n a.operand.x (limit_clear a.format s c.in_ok-table.ensures.refusals) (operand_clear a.operand.n a.operand.x c.in_ok-limits.ensures.value)
-    c.cut-kept.ensures c.high-j.ensures c.in_ok-table.ensures.numbers (c.own_bytes-own.ensures.bytes ∙ ap (λ (q : Quotients). front_of q s) c.in_ok-table.ensures.numbers) (sym c.in-Some.is ∙ c.node.ensures) (sym c.in_default-node.is ∙ c.node-2.ensures)
+    refused_upper a.format s a.operand.n a.operand.x (limit_clear a.format s c.in_ok-table.ensures.refusals)
+    (operand_clear a.operand.n a.operand.x c.in_ok-limits.ensures.value)
+    c.cut-kept.ensures c.high-j.ensures c.in_ok-table.ensures.numbers
+    (c.own_bytes-own.ensures.bytes ∙ ap (λ (q : Quotients). front_of q s) c.in_ok-table.ensures.numbers)
+    (sym c.in-Some.is ∙ c.node.ensures) (sym c.in_default-node.is ∙ c.node-2.ensures)
 
 pub returns : goal.returns
 returns c =
     let a = c.args in
     let s = a.image.now in
-    served_R a.format s a.operand.n a.operand.x (limit_clear a.format s c.in_ok-table.ensures.refusals) (operand_clear a.operand.n a.operand.x c.in_ok-limits.ensures.value)
-    c.cut-kept.ensures c.high-j.ensures c.in_ok-table.ensures.numbers (c.own_bytes-own.ensures.bytes ∙ ap (λ (q : Quotients). front_of q s) c.in_ok-table.ensures.numbers) (sym c.in-Some.is ∙ c.node.ensures) (sym c.in-Some-node.is ∙ c.node-2.ensures) c.low.ensures c.interpolated.ensures
+    served_R a.format s a.operand.n a.operand.x (limit_clear a.format s c.in_ok-table.ensures.refusals)
+    (operand_clear a.operand.n a.operand.x c.in_ok-limits.ensures.value)
+    c.cut-kept.ensures c.high-j.ensures c.in_ok-table.ensures.numbers
+    (c.own_bytes-own.ensures.bytes ∙ ap (λ (q : Quotients). front_of q s) c.in_ok-table.ensures.numbers)
+    (sym c.in-Some.is ∙ c.node.ensures) (sym c.in-Some-node.is ∙ c.node-2.ensures) c.low.ensures
+    c.interpolated.ensures
 
 pub interpolated-requires : goal.interpolated-requires
 interpolated-requires c =
     let a = c.args in
     let s = a.image.now in
-    is_piece a.format s a.operand.n a.operand.x (limit_clear a.format s c.in_ok-table.ensures.refusals) (operand_clear a.operand.n a.operand.x c.in_ok-limits.ensures.value)
-    c.cut-kept.ensures c.high-j.ensures c.in_ok-table.ensures.numbers (c.own_bytes-own.ensures.bytes ∙ ap (λ (q : Quotients). front_of q s) c.in_ok-table.ensures.numbers) (sym c.in-Some.is ∙ c.node.ensures) (sym c.in-Some-node.is ∙ c.node-2.ensures) c.low.ensures
+    is_piece a.format s a.operand.n a.operand.x (limit_clear a.format s c.in_ok-table.ensures.refusals)
+    (operand_clear a.operand.n a.operand.x c.in_ok-limits.ensures.value)
+    c.cut-kept.ensures c.high-j.ensures c.in_ok-table.ensures.numbers
+    (c.own_bytes-own.ensures.bytes ∙ ap (λ (q : Quotients). front_of q s) c.in_ok-table.ensures.numbers)
+    (sym c.in-Some.is ∙ c.node.ensures) (sym c.in-Some-node.is ∙ c.node-2.ensures) c.low.ensures

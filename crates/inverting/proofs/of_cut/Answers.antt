@@ -48,7 +48,11 @@ module _ (f : Form) (k : ℕ) (s : List ℕ) (bits : ℕ) (p : IsCut f k s bits)
     is_number = high ∙ sym (bits_number k 3 bits)
 
     is_piece : IsPieceOf k j
-    is_piece = record { low = p.low; high = p.high; below = omega (arith, is_number, cut_number_below k 3 t (bits_least k 3 bits) most) }
+    is_piece = record {
+      low = p.low;
+      high = p.high;
+      below = omega (arith, is_number, cut_number_below k 3 t (bits_least k 3 bits) most);
+    }
 
     module _ (bytes : Bytes s) where
       -- the words in its window are those of nodes j and j + 1
@@ -60,15 +64,19 @@ module _ (f : Form) (k : ℕ) (s : List ℕ) (bits : ℕ) (p : IsCut f k s bits)
           ∙ ap (λ (f : List ℕ). window_at f (j * width)) is-own
           ∙ ap (λ (i : ℕ). window_at (own_bytes F s) (i * width)) is_number
           ∙ ap (λ (w : ℕ). window_at (own_bytes F s) (node_number k 3 t * w)) is_width)
-          ∙ window_field (own_bytes F s) (node_number k 3 t * word_width F) (2 * word_width F) (own-bytes F s kept bytes) (omega (arith, p.high, width_most f k 2))
+          ∙ window_field (own_bytes F s) (node_number k 3 t * word_width F) (2 * word_width F)
+          (own-bytes F s kept bytes) (omega (arith, p.high, width_most f k 2))
 
       -- and what they give is the answer
-      answers : (answer : Result Ulps Refused) {own : List ℕ} {width x : ℕ} → own ≡ own_bytes F s → width ≡ word_width F → x ≡ window_at own (j * width)
-          → outcome_of_reciprocal answer ≡ ends_outcome F (both_in F x) j (bits % 2 ^ (k + 3)) → outcome_of_reciprocal answer ≡ cut_outcome F s t
+      answers : (answer : Result Ulps Refused) {own : List ℕ} {width x : ℕ} → own ≡ own_bytes F s → width ≡ word_width F
+          → x ≡ window_at own (j * width)
+          → outcome_of_reciprocal answer ≡ ends_outcome F (both_in F x) j (bits % 2 ^ (k + 3))
+          → outcome_of_reciprocal answer ≡ cut_outcome F s t
       answers answer is-own is_width read e =
           e
           ∙ ap (λ (b : ℕ). ends_outcome F b j (bits % 2 ^ (k + 3))) (reads is-own is_width read)
-          ∙ ap₂ (ends_outcome F (both_words f k s t kept (bits_least k 3 bits) most bytes)) is_number (sym (bits_fraction k 3 bits))
+          ∙ ap₂ (ends_outcome F (both_words f k s t kept (bits_least k 3 bits) most bytes)) is_number
+          (sym (bits_fraction k 3 bits))
           ∙ ends_of_cut f k s t kept (bits_least k 3 bits) most bytes
 
 pub by_form-requires : goal.by_form-requires
@@ -80,4 +88,5 @@ returns c =
     let numbers = c.requires.numbers in
     let bytes : Bytes a.image.now = λ i. omega (arith, c.type_inv.image i) in
     answers a.form a.k.0 a.image.now a.kept c.requires.cut c.high-j.ensures bytes c.by_form.result
-    (c.own_bytes.ensures.bytes ∙ ap (λ (q : Quotients). front_of q a.image.now) numbers) (ap (λ (q : Quotients). q.width) numbers) c.window-window.ensures c.by_form.ensures
+    (c.own_bytes.ensures.bytes ∙ ap (λ (q : Quotients). front_of q a.image.now) numbers)
+    (ap (λ (q : Quotients). q.width) numbers) c.window-window.ensures c.by_form.ensures

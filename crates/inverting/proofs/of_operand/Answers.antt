@@ -1,4 +1,5 @@
--- `inverting::of_operand` meets its contract: the limits of the precision and the image, those of n and X, and then the cut operand.
+-- `inverting::of_operand` meets its contract: the limits of the precision and the image, those of n and X, and then
+-- the cut operand.
 -- Assumes nothing.
 use mathlib.Core.Path.{◌≡◌, ap, ◌∙◌}
 use mathlib.Core.Bool.{false}
@@ -22,8 +23,10 @@ use Rattle.inverting.specs.Inner.{IsCut}
 use Rattle.inverting.proofs.CutBits.{whole, bits-below}
 use Rattle.inverting.proofs.of_operand.Goals as goal
 
--- behind the first test precision and image keep their limits, behind the second n and X keep theirs, and the bits that are handed on are the fraction bits of t
-module _ (f : Form) (k : ℕ) (s : List ℕ) (n X : ℕ) (kept : some_applies (limits (usual f k) (length s)) ≡ false) (kept-too : some_applies (operand_refusals n X) ≡ false)
+-- Behind the first test precision and image keep their limits, and behind the second n and X keep theirs.
+-- The bits that are handed on are the fraction bits of t.
+module _ (f : Form) (k : ℕ) (s : List ℕ) (n X : ℕ) (kept : some_applies (limits (usual f k) (length s)) ≡ false)
+    (kept-too : some_applies (operand_refusals n X) ≡ false)
     (bits : ℕ) (cut : bits ≡ cut_fraction (2 * k + 3) n X) where
   few : 2 * k + 3 ≤ 63
   few = omega (arith, (clear_kept (usual f k) s kept).high)
@@ -36,7 +39,12 @@ module _ (f : Form) (k : ℕ) (s : List ℕ) (n X : ℕ) (kept : some_applies (l
   cut_is : IsCut f k s bits
   cut_is =
       let a = clear_kept (usual f k) s kept in
-      record { low = a.low; high = a.high; long = a.long; below = bits-below k 3 n X bits (operand_kept n X kept-too) few cut }
+      record {
+        low = a.low;
+        high = a.high;
+        long = a.long;
+        below = bits-below k 3 n X bits (operand_kept n X kept-too) few cut;
+      }
 
 -- behind both
 pub returns : goal.returns
@@ -44,7 +52,9 @@ returns c =
     let a = c.args in
     let s = a.image.now in
     c.of_cut.ensures
-    ∙ cut_given a.form a.k.0 s a.operand.n a.operand.x (limit_clear (usual a.form a.k.0) s (rw c.usual.ensures at c.in_ok-table.ensures.refusals)) (operand_clear a.operand.n a.operand.x c.in_ok-limits.ensures.value)
+    ∙ cut_given a.form a.k.0 s a.operand.n a.operand.x
+    (limit_clear (usual a.form a.k.0) s (rw c.usual.ensures at c.in_ok-table.ensures.refusals))
+    (operand_clear a.operand.n a.operand.x c.in_ok-limits.ensures.value)
     c.cut.result c.cut.ensures
 
 pub of_cut-requires : goal.of_cut-requires
@@ -52,7 +62,9 @@ of_cut-requires c =
     let a = c.args in
     let s = a.image.now in
     record {
-      cut = cut_is a.form a.k.0 s a.operand.n a.operand.x (limit_clear (usual a.form a.k.0) s (rw c.usual.ensures at c.in_ok-table.ensures.refusals)) (operand_clear a.operand.n a.operand.x c.in_ok-limits.ensures.value)
+      cut = cut_is a.form a.k.0 s a.operand.n a.operand.x
+          (limit_clear (usual a.form a.k.0) s (rw c.usual.ensures at c.in_ok-table.ensures.refusals))
+          (operand_clear a.operand.n a.operand.x c.in_ok-limits.ensures.value)
           c.cut.result c.cut.ensures;
       numbers = c.in_ok-table.ensures.numbers ∙ ap quotients_of c.usual.ensures;
     }
