@@ -85,8 +85,8 @@ fn around(operand: Operand) -> [Operand; 3] {
     [x.wrapping_sub(1), x, x.wrapping_add(1)].map(|x| Operand { n, x })
 }
 
-// What a precision says of itself, of its words those with some table guard bits; the limits that are named with it, and the fewest and the most fraction
-// bits of an operand.
+// What a precision says of itself, of its words those with some table guard bits; the limits that are named with it,
+// and the fewest and the most fraction bits of an operand.
 fn limits(rt: &impl Print, k: Precision, table_guard_bits: u32) -> io::Result<()> {
     println!(rt;
         " {} {} {} {} {} {} {} {} {}",
@@ -111,8 +111,8 @@ fn of(k: u32, format: Format) -> Format {
     }
 }
 
-// What a format says of itself and of its guard bits; the longest image of each form with two table guard bits, and the longest of all; and the limits of
-// the guard bits.
+// What a format says of itself and of its guard bits; the longest image of each form with two table guard bits, and the
+// longest of all; and the limits of the guard bits.
 fn sizes(rt: &impl Print, format: Format) -> io::Result<()> {
     println!(rt;
         " {} {} {} {} {} {} {} {} {} {} {}",

@@ -16,8 +16,8 @@ pub(crate) enum Command<'a> {
     Print(Call),
 }
 
-// A call that only prints, with the numbers that it is made with: precisions or nodes, from the first to the last, or operands. Where they are precisions,
-// each takes the place of that of the format.
+// A call that only prints, with the numbers that it is made with: precisions or nodes, from the first to the last, or
+// operands. Where they are precisions, each takes the place of that of the format.
 #[derive(Drop)]
 pub(crate) enum Call {
     Precision(RangeInclusive<u32>, u32),

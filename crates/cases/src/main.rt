@@ -1,9 +1,10 @@
-// Runs the open calls as a script on standard input asks. crates/cases/stdin has the cases; crates/cases/stdout is written by
-// another program, tests/reference.py.
+// Runs the open calls as a script on standard input asks. crates/cases/stdin has the cases; crates/cases/stdout is
+// written by another program, tests/reference.py.
 //
-// There is a room of 16384 bytes, of which the front is lent to each call. A line of the script is a command, a word, and its
-// numbers, a space before each. It is printed as it stands. A number that is left out is 0, but for the guard bits. FORM is 0 for plain words
-// and anything else for full ones. Behind it stand A and B, table guard bits and input guard bits, 2 and 3 where they are left out. To make the lent bytes:
+// There is a room of 16384 bytes, of which the front is lent to each call. A line of the script is a command, a word,
+// and its numbers, a space before each. It is printed as it stands. A number that is left out is 0, but for the guard
+// bits. FORM is 0 for plain words and anything else for full ones. Behind it stand A and B, table guard bits and input
+// guard bits, 2 and 3 where they are left out. To make the lent bytes:
 //     fill B D      byte i of the room is B + D × i modulo 256; without D every byte is B
 //     hex HH HH ..  these bytes stand at the front, and are what is lent
 //     xor I B       the bits of B are changed in byte I
@@ -11,8 +12,8 @@
 // To print them in hex, or the 64-bit FNV-1a hash of them:
 //     show
 //     sum
-// Calls, each made with every number from FIRST to LAST, or with FIRST alone where there is no LAST above it. Each time a line is
-// printed: the number, and the numbers that the call answered.
+// Calls, each made with every number from FIRST to LAST, or with FIRST alone where there is no LAST above it. Each time
+// a line is printed: the number, and the numbers that the call answered.
 //     precision FIRST LAST A (precisions; A as above)
 //     format FIRST LAST FORM A B, check FIRST LAST FORM A B (precisions)
 //     node FIRST LAST K FORM A B, word FIRST LAST K FORM A B (nodes)
@@ -20,8 +21,9 @@
 //     rule FIRST LAST K, eight FIRST LAST (nodes, of no image; `eight` has those of precision 8)
 // One call is made with a single number, and its answer is printed alone:
 //     build K FORM A B
-// A call is made with COUNT operands of N fraction bits, or with one where there is no COUNT. The first is X, and each other is STEP
-// above the one before it, modulo 2^64. Each time a line is printed: the operand, and the numbers that the call answered.
+// A call is made with COUNT operands of N fraction bits, or with one where there is no COUNT. The first is X, and each
+// other is STEP above the one before it, modulo 2^64. Each time a line is printed: the operand, and the numbers that
+// the call answered.
 //     invert K N X COUNT STEP FORM A B
 //     around K N X COUNT STEP FORM A B (the same with both neighbours of each operand: one less, itself, one more)
 //     through K N X COUNT STEP FORM A B (the same as `invert`, through a bound table)
@@ -38,7 +40,7 @@ use std::io;
 
 fn main(rt: HostRuntime) -> io::Result<()> {
     let mut input = [0; 262144];
-    let n = lines::read_full(&mut rt.stdin(), &mut input);
+    let n = streams::read_front(&mut rt.stdin(), &mut input)?;
     run(&rt, &input[..n])
 }
 

@@ -3,7 +3,8 @@ ghost use Rattle.std.specs.Prelude.{◌<◌};
 
 #[derive(Drop)]
 pub(crate) struct Room {
-    // What is not lent stays as it is, for a later line that lends more: so `lent` is a number beside the bytes, and not their length.
+    // What is not lent stays as it is, for a later line that lends more: so `lent` is a number beside the bytes, and
+    // not their length.
     bytes: [u8; 16384],
     // How many bytes at the front are lent. It may be more than there are.
     lent: usize,

@@ -1,4 +1,5 @@
--- Laws of text written at a place, its length and pieces written one after the other; and what calls that put text leave.
+-- Laws of text written at a place, its length and pieces written one after the other; and what calls that put text
+-- leave.
 -- Assumes nothing.
 use mathlib.Core.Path.{◌≡◌, sym, ap, ◌∙◌}
 use mathlib.Core.Bool.{Bool, true}
@@ -37,7 +38,8 @@ module _ (s : List ℕ) (at : ℕ) (t : List ℕ) (fits : at + length t ≤ leng
       ∙ ap (λ (r : List ℕ). r ++ drop (at + length (t ++ u)) s) (append_assoc (take at s) t u))
 
 -- t in place of the bytes of s from `at` on, as many as t has, is t written
-pub copied_written : (s : List ℕ) (at : ℕ) (t : List ℕ) {k : ℕ} {u : List ℕ} → k ≡ length t → u ≡ t → put_mid at k s u ≡ written s at t
+pub copied_written : (s : List ℕ) (at : ℕ) (t : List ℕ) {k : ℕ} {u : List ℕ} → k ≡ length t → u ≡ t
+    → put_mid at k s u ≡ written s at t
 unfolding written
 copied_written s at t h e = rw (h, e, drop-drop) (sym (append_assoc (take at s) t (drop (at + length t) s)))
 
@@ -68,7 +70,11 @@ module _ {s : Text} {t : List ℕ} {p : Text} (h : Room s (length t)) (w : Wrote
       record {
         same = v.same ∙ w.same;
         place = omega (arith, v.place, w.place, length-append t u);
-        bytes = v.bytes ∙ ap (λ (x : List ℕ). written x p.at u) w.bytes ∙ ap (λ (n : ℕ). written (written s.out.now s.at t) n u) w.place ∙ written_more s.out.now s.at t h u;
+        bytes =
+            v.bytes
+            ∙ ap (λ (x : List ℕ). written x p.at u) w.bytes
+            ∙ ap (λ (n : ℕ). written (written s.out.now s.at t) n u) w.place
+            ∙ written_more s.out.now s.at t h u;
       }
 
   -- so did a call after it that asks for room

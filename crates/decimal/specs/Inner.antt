@@ -1,4 +1,5 @@
--- What only inner promises cite: a text that is written piece by piece, where there is room, and a piece that was written.
+-- What only inner promises cite: a text that is written piece by piece, where there is room, and a piece that was
+-- written.
 -- Assumes nothing.
 use Rattle.std.specs.Prelude.{◌≡◌, ℕ, ◌+◌, ◌≤◌, Bool, cond, List, leb, length}
 use Rattle.decimal.specs.declared.text.Text.{Text}
@@ -12,7 +13,8 @@ has_room s n = leb (s.at + n) (length s.out.now)
 abbrev pub Room : Text → ℕ → Type 0
 Room s n = s.at + n ≤ length s.out.now
 
--- a call that asks for room for n bytes in s and then writes t left r, over the same buffer: where there is no room, all as found
+-- a call that asks for room for n bytes in s and then writes t left r, over the same buffer: where there is no room,
+-- all as found
 pub record Puts (s : Text) (n : ℕ) (t : List ℕ) (r : Text) : Type 0 where
   pub same : r.out.ghost_name ≡ s.out.ghost_name
   pub place : r.at ≡ cond (has_room s n) (s.at + length t) s.at

@@ -8,7 +8,8 @@ ghost use Rattle.decimal.specs.Reading.{reading};
 
 pub use text::{MOST_DIGITS, Text};
 
-// Reads all of s as digits. None where s is empty, has another byte, or stands for 2^64 or more. (`parse` would take a sign before the digits.)
+// Reads all of s as digits. None where s is empty, has another byte, or stands for 2^64 or more. (`parse` would take a
+// sign before the digits.)
 pub fn read(s: &[u8]) -> Option<u64>
     ensures { result ≡ reading s.now }
 {

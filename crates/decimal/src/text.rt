@@ -1,15 +1,15 @@
 // A text that is written into a lent buffer, piece by piece.
-ghost use Rattle.std.specs.Prelude.{◌≡◌, length};
+ghost use Rattle.std.specs.Prelude.{◌≡◌, length, decimal};
 ghost use Rattle.decimal.specs.Inner.{has_room, Puts};
-ghost use Rattle.decimal.specs.Decimal.{decimal, most_digits};
+ghost use Rattle.decimal.specs.Decimal.{most_digits};
 
 use itoa::Buffer;
 
 // The most digits that a number of 64 bits has.
 pub const MOST_DIGITS: usize = 20;
 
-// A lent buffer, and the place in it where the next piece of text is written. It is no `fmt::Write`: `write!` promises its text only where it
-// answers Ok, and nothing promises that it does, so no table could be promised by it.
+// A lent buffer, and the place in it where the next piece of text is written. It is no `fmt::Write`: `write!` promises
+// its text only where it answers Ok, and nothing promises that it does, so no table could be promised by it.
 #[derive(Drop)]
 pub struct Text<'a> {
     pub out: &'a mut [u8],

@@ -41,7 +41,8 @@ read_none [] most h = read_open [] most (λ e. omega (arith, e))
 read_none (b ∷ s) most h = absurd (omega arith)
 
 -- 1 to `most` digits that stand for a number below 2^64, and a line feed, are read as that number
-pub digits_read : (most : ℕ) (d : List ℕ) → is_digits d ≡ true → length d ≤ most → decimal_value d < 2 ^ 64 → line_reading (d ++ line_feed ∷ []) most ≡ Some (decimal_value d)
+pub digits_read : (most : ℕ) (d : List ℕ) → is_digits d ≡ true → length d ≤ most → decimal_value d < 2 ^ 64
+    → line_reading (d ++ line_feed ∷ []) most ≡ Some (decimal_value d)
 digits_read most d e h v =
     let n : length (d ++ line_feed ∷ []) ≡ length d + 1 = length-append d (line_feed ∷ []) in
     let m : length (d ++ line_feed ∷ []) - 1 ≡ length d = omega (arith, n) in
@@ -50,14 +51,16 @@ digits_read most d e h v =
     ∙ rw (e, lt-ltb (decimal_value d) (2 ^ 64) v)
 
 -- and nothing else is read as a number
-pub read_digits : (s : List ℕ) (most v : ℕ) → line_reading s most ≡ Some v → (d : List ℕ) × (is_digits d ≡ true) × (length d ≤ most) × (s ≡ d ++ line_feed ∷ []) × (decimal_value d ≡ v)
+pub read_digits : (s : List ℕ) (most v : ℕ) → line_reading s most ≡ Some v
+    → (d : List ℕ) × (is_digits d ≡ true) × (length d ≤ most) × (s ≡ d ++ line_feed ∷ []) × (decimal_value d ≡ v)
 unfolding line_reading
 read_digits s most v e = go (leb (length s) (most + 1)) (eqb (get_or s (length s - 1) 0) line_feed) refl refl e
   where
     within : length (body s) ≡ length s - 1
     within = length-take-le (length s - 1) s (omega arith)
 
-    go : (x y : Bool) → leb (length s) (most + 1) ≡ x → eqb (get_or s (length s - 1) 0) line_feed ≡ y → cond (x && y) (reading (body s)) None ≡ Some v
+    go : (x y : Bool) → leb (length s) (most + 1) ≡ x → eqb (get_or s (length s - 1) 0) line_feed ≡ y
+        → cond (x && y) (reading (body s)) None ≡ Some v
         → (d : List ℕ) × (is_digits d ≡ true) × (length d ≤ most) × (s ≡ d ++ line_feed ∷ []) × (decimal_value d ≡ v)
     go true true p q r =
         let n = reading_number (body s) v r in
@@ -84,7 +87,8 @@ read_prefix n most s h = go (leb (length s) n) refl
     go true e = ap (λ (t : List ℕ). line_reading t most) (take_all n s (leb-true (length s) n e))
     go false e =
         let l : n < length s = leb-false (length s) n e in
-        read_long (take n s) most (rw (length-take-le n s (omega arith)) (omega arith)) ∙ sym (read_long s most (omega arith))
+        read_long (take n s) most (rw (length-take-le n s (omega arith)) (omega arith))
+        ∙ sym (read_long s most (omega arith))
 
 -- what settles each way out of `lines::read`
 pub ruleset line_cases = (read_none, read_long, read_open, read_ended, length-take-le)

@@ -1,4 +1,5 @@
--- Texts that are one line: they end in a line feed and have no other. A number, a literal and the line of a refusal are.
+-- Texts that are one line: they end in a line feed and have no other. A number, a literal and the line of a refusal
+-- are.
 -- Assumes nothing.
 use mathlib.Core.Path.{◌≡◌, refl, sym, ◌∙◌, ap}
 use mathlib.Core.Logic.{⊎_elim}
@@ -9,7 +10,8 @@ use Prim.Native.Nat.{ℕ}
 use native.Mathlib.Omega.{arith}
 use lib.Dec.{eqb}
 use borrow.Author.Tests.{eqb-false}
-use Rattle.decimal.specs.Decimal.{decimal, all_digits}
+use Rattle.std.specs.Prelude.{decimal}
+use Rattle.std.specs.Str.{all_ascii_digits}
 use Rattle.decimal.proofs.Laws.{decimal_digits, is_all, digit_first}
 use Rattle.lines.specs.Lines.{line_feed, space, field, refused_title, refused_text}
 
@@ -39,12 +41,13 @@ pub none_in_literal : (t : List ℕ) → no_feed t ≡ true → HasNoFeed t
 none_in_literal [] e = none_in_nothing
 none_in_literal (b ∷ t) e = go (eqb line_feed b) refl e (none_in_literal t)
   where
-    go : (x : Bool) → eqb line_feed b ≡ x → (not x && no_feed t) ≡ true → (no_feed t ≡ true → HasNoFeed t) → HasNoFeed (b ∷ t)
+    go : (x : Bool) → eqb line_feed b ≡ x → (not x && no_feed t) ≡ true
+        → (no_feed t ≡ true → HasNoFeed t) → HasNoFeed (b ∷ t)
     go true p q rest = absurd (true≢false (sym q))
     go false p q rest = none_in_more b t (eqb-false line_feed b p) (rest q)
 
 -- a number, and a number and a space
-none_in_digits : (s : List ℕ) → all_digits s ≡ true → HasNoFeed s
+none_in_digits : (s : List ℕ) → all_ascii_digits s ≡ true → HasNoFeed s
 none_in_digits [] e = none_in_nothing
 none_in_digits (b ∷ s) e =
     let d = digit_first b s e in
@@ -68,4 +71,5 @@ line_after t s p l =
     (t ++ l.0, ap (λ (r : List ℕ). t ++ r) l.1 ∙ sym (append_assoc t l.0 (line_feed ∷ [])), none_in_both t l.0 p l.2)
 
 pub line_refused : (number : ℕ) → IsLine (refused_text number)
-line_refused number = line_after refused_title (field number line_feed) (none_in_literal refused_title refl) (line_field number)
+line_refused number =
+    line_after refused_title (field number line_feed) (none_in_literal refused_title refl) (line_field number)

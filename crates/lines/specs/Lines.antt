@@ -1,7 +1,6 @@
 -- Lines of text: what is read from one, a number and the byte behind it, and the line of a refusal.
 -- Assumes nothing.
-use Rattle.std.specs.Prelude.{ℕ, ◌+◌, ◌-◌, Bool, cond, ◌&&◌, List, [], ◌∷◌, ◌++◌, leb, eqb, length, take, get_or, Option, None}
-use Rattle.decimal.specs.Decimal.{decimal}
+use Rattle.std.specs.Prelude.{ℕ, ◌+◌, ◌-◌, Bool, cond, ◌&&◌, List, [], ◌∷◌, ◌++◌, leb, eqb, length, take, get_or, Option, None, decimal}
 use Rattle.decimal.specs.Reading.{reading}
 
 abbrev pub line_feed : ℕ
@@ -18,7 +17,8 @@ body s = take (length s - 1) s
 abbrev pub ends_within : List ℕ → ℕ → Bool
 ends_within s most = leb (length s) (most + 1) && eqb (get_or s (length s - 1) 0) line_feed
 
--- the number where s is 1 to `most` digits, then one line feed and nothing more, and the number is below 2^64; None for anything else
+-- the number where s is 1 to `most` digits, then one line feed and nothing more, and the number is below 2^64; None for
+-- anything else
 unfoldable pub line_reading : List ℕ → ℕ → Option ℕ
 line_reading s most = cond (ends_within s most) (reading (body s)) None
 

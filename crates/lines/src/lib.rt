@@ -1,7 +1,6 @@
-// Lines of text for programs: an input read, a number read from a line, a number written with a byte behind it, and the line of a refusal.
+// Lines of text for programs: a number read from a line, a number written with a byte behind it, and the line of a
+// refusal.
 #![tactic(auto)]
-
-mod input;
 
 ghost use Rattle.std.specs.Prelude.{◌≡◌};
 ghost use Rattle.decimal.specs.Inner.{Puts};
@@ -9,7 +8,6 @@ ghost use Rattle.lines.specs.Lines.{line_reading, field, refused_text};
 ghost use Rattle.lines.specs.Inner.{longest_field, longest_refusal};
 
 use decimal::Text;
-pub use input::read_full;
 
 // The most bytes that a number of 64 bits and the byte behind it are.
 pub const LONGEST_FIELD: usize = 21;
@@ -17,8 +15,8 @@ pub const LONGEST_FIELD: usize = 21;
 // The most bytes that the line of a refusal is.
 pub const LONGEST_REFUSAL: usize = 29;
 
-// Reads a line as a number: 1 to `most` digits, leading zeros allowed, then one line feed and nothing more. None for any other bytes, and
-// where the digits stand for 2^64 or more.
+// Reads a line as a number: 1 to `most` digits, leading zeros allowed, then one line feed and nothing more. None for
+// any other bytes, and where the digits stand for 2^64 or more.
 #[tactic(auto, using(crate::proofs::ReadLines::line_cases))]
 pub fn read(line: &[u8], most: usize) -> Option<u64>
     ensures { result ≡ line_reading line.now most }
@@ -32,7 +30,8 @@ pub fn read(line: &[u8], most: usize) -> Option<u64>
     decimal::read(digits)
 }
 
-// Writes the digits of n and the byte `behind` after them, where LONGEST_FIELD bytes have room, and nothing where they have none.
+// Writes the digits of n and the byte `behind` after them, where LONGEST_FIELD bytes have room, and nothing where they
+// have none.
 pub fn put(text: &mut Text, n: u64, behind: u8)
     ensures written { Puts text.old longest_field (field n behind) text.new }
     ensures longest_field_value { LONGEST_FIELD ≡ longest_field }
@@ -44,7 +43,8 @@ pub fn put(text: &mut Text, n: u64, behind: u8)
     text.put_text(&[behind]);
 }
 
-// Writes `refused`, a space, the number and a line feed, where LONGEST_REFUSAL bytes have room, and nothing where they have none.
+// Writes `refused`, a space, the number and a line feed, where LONGEST_REFUSAL bytes have room, and nothing where they
+// have none.
 pub fn put_refused(text: &mut Text, number: u64)
     ensures written { Puts text.old longest_refusal (refused_text number) text.new }
     ensures longest_refusal_value { LONGEST_REFUSAL ≡ longest_refusal }

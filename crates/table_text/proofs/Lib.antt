@@ -2,3 +2,4 @@ pub mod Sizes
 pub mod Requests
 pub mod LineLaws
 mod Examples
+mod Runs

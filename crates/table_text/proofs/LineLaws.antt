@@ -1,4 +1,5 @@
--- The lines of a table from what the calls give: values and words in range, and one line after the other; which text an input has.
+-- The lines of a table from what the calls give: values and words in range, and one line after the other; which text an
+-- input has.
 -- Assumes nothing.
 use mathlib.Core.Path.{◌≡◌, refl}
 use mathlib.Core.Bool.{true, false}
@@ -37,7 +38,8 @@ text_out_of_range k e = rw e
 
 module _ (k j : ℕ) where
   -- the line of a node that has a word: the lowest bits of its value
-  pub line_word : {c w : ℕ} → j < 2 ^ k → c ≡ node k 2 j → w ≡ c % 2 ^ word_width k 2 → field j space ++ field c space ++ field w line_feed ≡ line k j
+  pub line_word : {c w : ℕ} → j < 2 ^ k → c ≡ node k 2 j → w ≡ c % 2 ^ word_width k 2
+      → field j space ++ field c space ++ field w line_feed ≡ line k j
   unfolding line
   line_word {c} {w} h p q = rw (q, p, ne_eqb j (2 ^ k) (omega arith))
 

@@ -1,4 +1,5 @@
--- What an input requests, by what reading it as a line finds, that it fits 32 bits, and that eleven bytes of it settle it.
+-- What an input requests, by what reading it as a line finds, that it fits 32 bits, and that eleven bytes of it settle
+-- it.
 -- Assumes nothing.
 use mathlib.Core.Path.{◌≡◌, refl, ap}
 use mathlib.Core.List.{List}

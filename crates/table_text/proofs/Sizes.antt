@@ -23,26 +23,30 @@ use Rattle.table_text.specs.TableText.{word_field, line, lines, header, table_of
 pub count_most : (k : ℕ) → in_range k ≡ true → 2 ^ k ≤ 4096
 count_most k e = pow_mono {i = k} {j = 12} (in-range k e).1
 
-pub columns_most : (j c : ℕ) → length (field j space ++ field c space) ≤ 42
-columns_most j c = rw length-append (omega (arith, field_most j space, field_most c space))
+pub columns_most : (j c : ℕ) → j < 2 ^ 64 → c < 2 ^ 64 → length (field j space ++ field c space) ≤ 42
+columns_most j c p q = rw length-append (omega (arith, field_most j space p, field_most c space q))
 
 -- a node's value is at most what is divided for it
-node_below : (k j : ℕ) → in_range k ≡ true → node k 2 j < 10 ^ 12
+pub node_below : (k j : ℕ) → in_range k ≡ true → node k 2 j < 10 ^ 12
 node_below k j e =
     let top : 2 ^ (3 * k + 3) ≤ 2 ^ 39 = pow_mono {i = 3 * k + 3} {j = 39} (omega (arith, (in-range k e).1)) in
-    let one : rounded_up (2 ^ (3 * k + 3)) 1 ≡ 2 ^ (3 * k + 3) = rw mul-one at (exact (2 ^ (3 * k + 3)) 1 (omega arith)) in
-    omega (arith, top, one, antitone (2 ^ (3 * k + 3)) {i = 1} {i' = 2 ^ k + j} (omega arith) (omega (arith, pow_pos k)))
+    let n : ℕ = 2 ^ (3 * k + 3) in
+    let one : rounded_up n 1 ≡ n = rw mul-one at (exact n 1 (omega arith)) in
+    omega (arith, top, one, antitone n {i = 1} {i' = 2 ^ k + j} (omega arith) (omega (arith, pow_pos k)))
 
 word_below : (k j : ℕ) → in_range k ≡ true → stored_word k 2 j < 10 ^ 8
 word_below k j e =
-    omega (arith, mod-lt (node k 2 j) (pow_pos (word_width k 2)), pow_mono {i = word_width k 2} {j = 26} (omega (arith, (in-range k e).1)))
+    let w : ℕ = word_width k 2 in
+    omega (arith, mod-lt (node k 2 j) (pow_pos w), pow_mono {i = w} {j = 26} (omega (arith, (in-range k e).1)))
 
 word_most : (k j : ℕ) → in_range k ≡ true → length (word_field k j) ≤ 9
 word_most k j e = go (eqb j (2 ^ k))
   where
     go : (x : Bool) → length (cond x hyphen_text (field (stored_word k 2 j) line_feed)) ≤ 9
     go true = omega arith
-    go false = field_below 8 (stored_word k 2 j) line_feed (omega arith) (word_below k j e)
+    go false =
+        let below = word_below k j e in
+        field_below 8 (stored_word k 2 j) line_feed (omega arith) below (omega (arith, below))
 
 -- the line of a node has at most 27 bytes
 pub line_most : (k j : ℕ) → in_range k ≡ true → j ≤ 2 ^ k → length (line k j) ≤ 27
@@ -51,8 +55,8 @@ line_most k j e h =
     rw (length-append, length-append)
     (omega (
       arith,
-      field_below 4 j space (omega arith) (omega (arith, count_most k e)),
-      field_below 12 (node k 2 j) space (omega arith) (node_below k j e),
+      field_below 4 j space (omega arith) (omega (arith, count_most k e)) (omega (arith, count_most k e)),
+      field_below 12 (node k 2 j) space (omega arith) (node_below k j e) (omega (arith, node_below k j e)),
       word_most k j e,
     ))
 
@@ -60,7 +64,8 @@ line_most k j e h =
 pub lines_most : (k n : ℕ) → in_range k ≡ true → n ≤ 2 ^ k + 1 → length (lines k n) ≤ 27 * n
 unfolding lines
 lines_most k zero e h = omega arith
-lines_most k (suc n) e h = rw length-append (omega (arith, lines_most k n e (omega arith), line_most k n e (omega arith)))
+lines_most k (suc n) e h =
+    rw length-append (omega (arith, lines_most k n e (omega arith), line_most k n e (omega arith)))
 
 -- the first line has at most 32 bytes
 pub header_most : (k : ℕ) → in_range k ≡ true → length (header k) ≤ 32
@@ -68,8 +73,9 @@ unfolding header
 header_most k e =
     let r = in-range k e in
     let bytes : image_length k < 10 ^ 5 = omega (arith, mul-le-mul (count_most k e) (wide r)) in
-    simp length-append
-    (omega (arith, field_below 2 k space (omega arith) (omega (arith, r.1)), field_below 5 (image_length k) line_feed (omega arith) bytes))
+    let first = field_below 2 k space (omega arith) (omega (arith, r.1)) (omega (arith, r.1)) in
+    let second = field_below 5 (image_length k) line_feed (omega arith) bytes (omega (arith, bytes)) in
+    simp length-append (omega (arith, first, second))
   where
     wide : (1 ≤ k) × (k ≤ 12) → word_width k 2 ≤ 26
     wide r = omega (arith, r.1)
@@ -83,11 +89,12 @@ pub text_fits : (s : List ℕ) → length (table_text s) ≤ longest_text
 unfolding table_text table_of
 text_fits s = go (in_range (precision_of s)) refl
   where
-    go : (x : Bool) → in_range (precision_of s) ≡ x → length (cond x (table_of (precision_of s)) (refused_text 1)) ≤ longest_text
+    go : (x : Bool) → in_range (precision_of s) ≡ x
+        → length (cond x (table_of (precision_of s)) (refused_text 1)) ≤ longest_text
     go true e =
         let k = precision_of s in
         rw length-append (omega (arith, header_most k e, count_most k e, lines_most k (2 ^ k + 1) e (omega arith)))
-    go false e = omega (arith, refused_most 1)
+    go false e = omega (arith, refused_most 1 (omega arith))
 
 -- so what is printed lies within the buffer
 pub printed_within : (input s : List ℕ) {r : ℕ} → r ≡ printed_length input s → r ≤ length s

@@ -1,4 +1,4 @@
--- The printed table (document 01, "The printed table"), of two table guard bits.
+-- The printed table (docs/SCOPE.md, "The printed table"), of two table guard bits.
 -- Assumes nothing.
 use Rattle.std.specs.Prelude.{ℕ, zero, suc, ◌+◌, ◌*◌, ◌^◌, Bool, cond, List, [], ◌∷◌, ◌++◌, leb, eqb, length, unwrap_or}
 use Rattle.decimal.specs.Text.{written}

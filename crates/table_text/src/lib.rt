@@ -1,16 +1,19 @@
 // The printed table of a precision, with two table guard bits, as text in a lent buffer.
 #![tactic(auto)]
 
-ghost use Rattle.std.specs.Prelude.{◌≡◌, true, ◌++◌, ◌^◌, ◌≤◌};
+ghost use Rattle.std.specs.Prelude.{◌≡◌, true, ◌++◌, ◌^◌, ◌≤◌, length, IfSome, OnOk};
+ghost use Rattle.std.specs.Io.KnownBytes.{Appends};
 ghost use Rattle.decimal.specs.Inner.{Room, Wrote};
 ghost use Rattle.precision.specs.Precision.{in_range};
 ghost use Rattle.lines.specs.Lines.{line_feed, space, field};
+ghost use Rattle.streams.specs.Streams.{AppendsFront};
 ghost use Rattle.table_text.specs.TableText.{
   precision_of,
   precision_text,
   bytes_text,
   line as line_text,
   text_of,
+  table_text,
   longest_text,
   printed,
   printed_length,
@@ -19,9 +22,15 @@ ghost use Rattle.table_text.specs.TableText.{
 use decimal::Text;
 use format::GuardBits;
 use precision::Precision;
+use std::io;
+use std::io::{Read, Write};
 
 // The bytes that a buffer must have: every text fits.
 pub const LONGEST_TEXT: usize = 131136;
+
+// The bytes of an input that settle which precision it requests: 9 digits, a line feed, and one byte more, which no
+// request has.
+const SETTLING: usize = 11;
 
 // The precision that the input requests: 1 to 9 digits, then one line feed and no more. Other input counts as 0.
 fn requested(input: &[u8]) -> Precision
@@ -33,7 +42,7 @@ fn requested(input: &[u8]) -> Precision
 
 // Writes the first line: the precision, and the length of the plain image in bytes.
 fn header(text: &mut Text, k: Precision, bytes: usize)
-    requires { Room text.old 58 }
+    requires { (in_range k.0 ≡ true) × Room text.old 58 }
     ensures { Wrote text.old (precision_text ++ field k.0 space ++ (bytes_text ++ field bytes line_feed)) text.new }
 {
     text.put_text(b"precision ");
@@ -42,7 +51,8 @@ fn header(text: &mut Text, k: Precision, bytes: usize)
     lines::put(text, bytes as u64, b'\n');
 }
 
-// Writes the line of node j: its number, its value and its word, the lowest bits of the value. The last node has no word.
+// Writes the line of node j: its number, its value and its word, the lowest bits of the value. The last node has no
+// word.
 fn line(text: &mut Text, k: Precision, j: u32)
     requires { (in_range k.0 ≡ true) × (j ≤ 2 ^ k.0) × Room text.old 63 }
     ensures { Wrote text.old (line_text k.0 j) text.new }
@@ -76,8 +86,8 @@ fn table(text: &mut Text, k: Precision)
     }
 }
 
-// Writes the printed table of the precision that the input requests at the front of `out`, and gives its length. The bytes after it
-// stay as found; with fewer than LONGEST_TEXT bytes all do, and the length is 0.
+// Writes the printed table of the precision that the input requests at the front of `out`, and gives its length. The
+// bytes after it stay as found; with fewer than LONGEST_TEXT bytes all do, and the length is 0.
 pub fn print(input: &[u8], out: &mut [u8]) -> usize
     ensures value { result ≡ printed_length input.now out.old }
     ensures out_after { out.new ≡ printed input.now out.old }
@@ -89,4 +99,28 @@ pub fn print(input: &[u8], out: &mut [u8]) -> usize
     let mut text = Text { out, at: 0 };
     table(&mut text, requested(input));
     text.at
+}
+
+// The printed table of the precision that the input requests, at the front of a buffer that has room for it.
+fn answer<'a>(input: &[u8], out: &'a mut [u8]) -> &'a [u8]
+    requires { longest_text ≤ length out.old }
+    ensures { result.now ≡ table_text input.now }
+{
+    let length = print(input, out);
+    &out[..length]
+}
+
+// Writes the printed table of the precision that the input requests, and nothing else. After an error the output has a
+// front of it behind what was there; where the input could not be read, that front is empty.
+pub fn run<R: Read, W: Write>(input: &mut R, output: &mut W) -> io::Result<()>
+    ensures ok { OnOk result (IfSome (R.remaining input.old) (λ xs.
+        Appends (W.contents output.old) (W.contents output.new) (table_text xs))) }
+    ensures front { IfSome (R.remaining input.old) (λ xs.
+        AppendsFront (W.contents output.old) (W.contents output.new) (table_text xs)) }
+{
+    let mut request = [0u8; SETTLING];
+    let got = streams::read_front(input, &mut request)?;
+    let mut text = [0u8; LONGEST_TEXT];
+    streams::write_text(output, answer(&request[..got], &mut text))?;
+    output.flush()
 }

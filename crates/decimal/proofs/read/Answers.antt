@@ -9,11 +9,13 @@ pub returns-in_err-checked_mul : goal.returns-in_err-checked_mul
 returns-in_err-checked_mul c =
     let l = c.loop-b in
     let over = c.in_err-checked_mul.ensures in
-    c.from_residual.ensures ∙ sym (l.invariant.1 ∙ at_over c.args.s.now l.value l.b-index c.loop-b-test.true (omega arith) (omega arith))
+    let none = at_over c.args.s.now l.value l.b-index c.loop-b-test.true (omega arith) (omega arith) in
+    c.from_residual.ensures ∙ sym (l.invariant.1 ∙ none)
 
 pub returns-in_err-value : goal.returns-in_err-value
 returns-in_err-value c =
     let l = c.loop-b in
     let over = c.in_err-value.ensures in
     let tens = c.in_ok-checked_mul.ensures in
-    c.from_residual-in_err-value.ensures ∙ sym (l.invariant.1 ∙ at_over c.args.s.now l.value l.b-index c.loop-b-test.true (omega arith) (omega arith))
+    let none = at_over c.args.s.now l.value l.b-index c.loop-b-test.true (omega arith) (omega arith) in
+    c.from_residual-in_err-value.ensures ∙ sym (l.invariant.1 ∙ none)

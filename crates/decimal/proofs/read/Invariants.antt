@@ -1,4 +1,5 @@
--- The loop of `decimal::read`: what is found from the value so far and the bytes that are left is what is found from all of s.
+-- The loop of `decimal::read`: what is found from the value so far and the bytes that are left is what is found from
+-- all of s.
 -- Assumes nothing.
 use mathlib.Core.Path.{◌≡◌}
 use Prim.Native.Nat.{◌^◌, ◌<◌}

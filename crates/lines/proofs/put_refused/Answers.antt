@@ -8,4 +8,5 @@ pub returns-clause-written : goal.returns-clause-written
 returns-clause-written c =
     let fits = room_fits c.args.text.now _ c.has_room.ensures c.if-not-has_room.false in
     let title = puts_room (omega (arith, fits)) c.put_text.ensures in
-    wrote_puts (omega (arith, fits)) (wrote_then (omega (arith, fits)) title (omega (arith, fits)) c.put.ensures.written)
+    let both = wrote_then (omega (arith, fits)) title (omega (arith, fits)) c.put.ensures.written in
+    wrote_puts (omega (arith, fits)) both

@@ -17,7 +17,8 @@ module _ (input out : List ℕ) where
   unfolding printed printed_length
   nothing h = rw (lt-leb longest_text (length out) h) (refl, refl)
 
-  text : {k : ℕ} → longest_text ≤ length out → k ≡ precision_of input → (printed_length input out ≡ length (text_of k)) × (printed input out ≡ written out 0 (text_of k))
+  text : {k : ℕ} → longest_text ≤ length out → k ≡ precision_of input
+      → (printed_length input out ≡ length (text_of k)) × (printed input out ≡ written out 0 (text_of k))
   unfolding printed printed_length table_text
   text h e = rw (le-leb longest_text (length out) h, e) (refl, refl)
 
@@ -28,7 +29,8 @@ pub returns-then-out-lt-LONGEST_TEXT-clause-out_after : goal.returns-then-out-lt
 returns-then-out-lt-LONGEST_TEXT-clause-out_after c = sym (nothing c.args.input.now c.args.out.now (omega arith)).1
 
 pub returns-clause-value : goal.returns-clause-value
-returns-clause-value c = omega (arith, c.table.ensures.place, (text c.args.input.now c.args.out.now (omega arith) c.requested.ensures).0)
+returns-clause-value c =
+    omega (arith, c.table.ensures.place, (text c.args.input.now c.args.out.now (omega arith) c.requested.ensures).0)
 
 pub returns-clause-out_after : goal.returns-clause-out_after
 returns-clause-out_after c =

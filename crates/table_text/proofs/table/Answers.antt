@@ -16,7 +16,8 @@ use Rattle.table_text.proofs.LineLaws.{table_none, table_more, text_in_range, te
 use Rattle.table_text.proofs.table.Goals as goal
 
 -- what is known in a turn: k is a precision, the last node is 2^k, and behind what stands there is room for a line
-in_a_turn : (k j : ℕ) {bytes last : ℕ} → Some bytes ≡ (if in_range k then Some (image_length k) else None) → Some last ≡ (if in_range k then Some (word_count k) else None) → j ≤ last
+in_a_turn : (k j : ℕ) {bytes last : ℕ} → Some bytes ≡ (if in_range k then Some (image_length k) else None)
+    → Some last ≡ (if in_range k then Some (word_count k) else None) → j ≤ last
     → (in_range k ≡ true) × (last ≡ 2 ^ k) × (length (header k ++ lines k j) + 63 ≤ longest_text)
 in_a_turn k j {bytes} {last} p q h =
     let e : in_range k ≡ true = (given (in_range k) (image_length k) bytes p).0 in
@@ -33,14 +34,16 @@ pub loop-j-init : goal.loop-j-init
 unfolding header
 loop-j-init c =
     let k = c.args.k.0 in
-    let same : c.in-Some.bytes ≡ image_length k = (given (in_range k) _ _ (sym c.in-Some.is ∙ c.image_length.ensures.value)).1 in
+    let is = sym c.in-Some.is ∙ c.image_length.ensures.value in
+    let same : c.in-Some.bytes ≡ image_length k = (given (in_range k) _ _ is).1 in
     rw (table_none k) (rw same at c.header.ensures)
 
 pub line-requires : goal.line-requires
 line-requires c =
     let l = c.loop-j in
     let fits = c.requires in
-    let t = in_a_turn c.args.k.0 l.j (sym c.in-Some.is ∙ c.image_length.ensures.value) (sym c.unwrap-j-end.ensures ∙ c.word_count.ensures) (omega arith) in
+    let is = sym c.in-Some.is ∙ c.image_length.ensures.value in
+    let t = in_a_turn c.args.k.0 l.j is (sym c.unwrap-j-end.ensures ∙ c.word_count.ensures) (omega arith) in
     (t.0, omega arith, room_left (omega arith) l.invariant 63 (omega arith))
 
 pub loop-j-preserved : goal.loop-j-preserved
@@ -48,7 +51,8 @@ loop-j-preserved c =
     let k = c.args.k.0 in
     let l = c.loop-j in
     let fits = c.requires in
-    let t = in_a_turn k l.j (sym c.in-Some.is ∙ c.image_length.ensures.value) (sym c.unwrap-j-end.ensures ∙ c.word_count.ensures) (omega arith) in
+    let is = sym c.in-Some.is ∙ c.image_length.ensures.value in
+    let t = in_a_turn k l.j is (sym c.unwrap-j-end.ensures ∙ c.word_count.ensures) (omega arith) in
     rw (table_more k l.j) at (wrote_more (omega arith) l.invariant c.line.ensures)
 
 pub returns-in-Some-2 : goal.returns-in-Some-2
@@ -56,6 +60,7 @@ returns-in-Some-2 c =
     let k = c.args.k.0 in
     let l = c.loop-j in
     let fits = c.requires in
-    let t = in_a_turn k l.j (sym c.in-Some.is ∙ c.image_length.ensures.value) (sym c.unwrap-j-end.ensures ∙ c.word_count.ensures) (omega arith) in
+    let is = sym c.in-Some.is ∙ c.image_length.ensures.value in
+    let t = in_a_turn k l.j is (sym c.unwrap-j-end.ensures ∙ c.word_count.ensures) (omega arith) in
     let last : l.j ≡ 2 ^ k = omega arith in
     rw (text_in_range k t.0, ← last) (rw (table_more k l.j) at (wrote_more (omega arith) l.invariant c.line.ensures))
