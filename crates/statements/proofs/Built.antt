@@ -26,11 +26,10 @@ use Rattle.layout.specs.Refusals.{word_refusal}
 use Rattle.layout.proofs.Laws as layouts
 use Rattle.layout.proofs.Laws.{Fits}
 use Rattle.layout.proofs.Rom as roms
-use Rattle.image.specs.Image.{table_of, image, word_of, node_of}
+use Rattle.image.specs.Image.{table_of, image, node_of}
 use Rattle.image.specs.Refusals.{node_refusal}
-use Rattle.image.specs.Calls.{build_outcome, build_leaves, check_outcome, node_outcome}
+use Rattle.image.specs.Calls.{build_outcome, build_leaves, node_outcome}
 use Rattle.image.proofs.Laws.{table_fits, has_bits}
-use Rattle.image.proofs.Checks.{check_none}
 use Rattle.image.proofs.Judging.{node_served}
 use Rattle.operand.specs.Operand.{cut_operand}
 use Rattle.operand.specs.Refusals.{operand_refusals}
@@ -41,7 +40,7 @@ use Rattle.interpolation.specs.Calls.{cut_refusals, reciprocal_outcome}
 use Rattle.statements.specs.Terms.{IsOffered, IsLongEnough, right_word, IsRightAt, IsTailZero, IsFractionCount, IsNormalised}
 use Rattle.statements.proofs.Iff.{guards_of, read_right}
 use Rattle.statements.proofs.Nodes.{served_decodes}
-use Rattle.statements.proofs.Numbers.{limits_kept, kept_answer, later_number}
+use Rattle.statements.proofs.Numbers.{kept_answer, later_number}
 use Rattle.statements.proofs.Reciprocals.{has_word, gives}
 use Rattle.statements.proofs.Tails.{IsFilledZero, past_end, end_zero}
 
@@ -132,30 +131,12 @@ module _ (F : Format) (s : List ℕ) (p : IsOffered F) (l : IsLongEnough F s) wh
   pub tail_zero : IsTailZero F left
   tail_zero = end_zero F left nothing_past
 
-  pub built_checks : check_outcome F left ≡ served 0
-  built_checks =
-      check_none F left (limits_kept F left p still_long) (le_of_eq (sym (layouts.all_right (table_of F) left built_words))) nothing_past
-
 -- from the images of both forms, of equal guard bits, every operand has the same answer
 pub same_in_both : (k a b : ℕ) (s s' : List ℕ) → IsOffered (asked Plain k a b) → IsLongEnough (asked Plain k a b) s → IsLongEnough (asked Full k a b) s' → (n X : ℕ)
     → reciprocal_outcome (asked Plain k a b) (build_leaves (asked Plain k a b) s) n X ≡ reciprocal_outcome (asked Full k a b) (build_leaves (asked Full k a b) s') n X
 same_in_both k a b s s' p l m n X = built_answers (asked Plain k a b) s p l n X ∙ sym (built_answers (asked Full k a b) s' p m n X)
 
--- right words with nothing behind them make a full ROM, and the other way round
 module _ (F : Format) (s : List ℕ) (some : 1 ≤ word_width F) (bytes : Bytes s) (l : IsLongEnough F s) where
-  pub right_is_rom : (((j : ℕ) → j < word_count F → IsRightAt F s j) × IsTailZero F s) ↔ (s ≡ rom_of (table_of F) (length s))
-  right_is_rom = (to, from)
-    where
-      to : ((j : ℕ) → j < word_count F → IsRightAt F s j) × IsTailZero F s → s ≡ rom_of (table_of F) (length s)
-      to t = roms.right_rom (table_of F) (table_fits F some) s bytes l t.0 (past_end F s t.1)
-
-      from : s ≡ rom_of (table_of F) (length s) → ((j : ℕ) → j < word_count F → IsRightAt F s j) × IsTailZero F s
-      from e = (
-        λ j h. ap (λ (u : List ℕ). word_of F u j) e ∙ roms.rom_word (table_of F) (table_fits F some) (length s) j h,
-        end_zero F s
-            (le_of_eq (sym (ap (first_past (table_of F)) e ∙ roms.rom_past (table_of F) (table_fits F some) (length s) l))),
-      )
-
   -- the front of a buffer is the image exactly where its words are right and its filling bits are zero
   pub right_is_image : (((j : ℕ) → j < word_count F → IsRightAt F s j) × IsFilledZero F s) ↔ (take (image_length F) s ≡ image F)
   right_is_image = (to, from)

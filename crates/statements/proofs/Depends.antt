@@ -26,7 +26,8 @@ use Rattle.layout.specs.Layout.{first_wrong}
 use Rattle.layout.specs.Refusals.{image_refusal, word_refusal, tail_refusal}
 use Rattle.layout.proofs.Laws.{Fits, own_word, wrong_agrees}
 use Rattle.image.specs.Image.{table_of, word_of, node_of}
-use Rattle.image.specs.Refusals.{precision_refusal, guard_refusal, node_refusal, limits}
+use Rattle.nodes.specs.Refusals.{precision_refusal, guard_refusal}
+use Rattle.image.specs.Refusals.{node_refusal, limits}
 use Rattle.image.specs.Calls.{check_outcome, node_outcome, shown_part, shown_from}
 use Rattle.image.proofs.Laws.{table_fits, has_bits}
 use Rattle.image.proofs.Judging.{node_past}

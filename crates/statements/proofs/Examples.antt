@@ -1,11 +1,12 @@
--- The set examples of document 01 that are marked P, those of document 02 for Q-2 and Q-7, ours for Q-1, Q-2, Q-5, Q-7 and Q-14, and the printed table hold of
--- the definitions that the contracts cite: one statement for all tables, by computation.
--- Assumes nothing.
+-- Examples: the set examples hold of the definitions that the contracts cite.
+--
+-- They stand as literals in specs/Examples.antt, the printed table of precision 2 among them.
+-- They are settled by computation, all tables in one statement: examples_hold.
 use mathlib.Core.Path.{refl}
 use Rattle.quotient.specs.Quotient.{rounded_up}
 use Rattle.packing.specs.Packing.{word_at, field_at}
 use Rattle.bools.specs.Lowest.{lowest}
-use Rattle.decimal.specs.Decimal.{digits, decimal}
+use Rattle.std.specs.Fmt.{digits}
 use Rattle.lines.specs.Lines.{line_reading, field}
 use Rattle.table_text.specs.TableText.{precision_of, line, lines, header, table_of, table_text}
 use Rattle.statements.specs.Examples.{length_examples, LengthHolds, image_examples, ImageHolds, rom_examples, RomHolds, fault_examples, FaultHolds, dirty_examples, DirtyHolds, reciprocal_examples, ReciprocalHolds, step_examples, StepHolds, refused_examples, RefusedHolds, limit_examples, LimitHolds, text_examples, TextHolds, Each, ExamplesHold}
@@ -123,7 +124,7 @@ limits_hold =
     also tt
 
 texts_hold : Each TextHolds text_examples
-unfolding precision_of line_reading digits decimal rounded_up field line lines header table_of table_text
+unfolding precision_of line_reading digits rounded_up field line lines header table_of table_text
 texts_hold = refl also refl also refl also tt
 
 pub examples_hold : ExamplesHold

@@ -60,7 +60,7 @@ row5 = (λ t. (t.0, t.1.0, t.1.1.0, t.1.1.1.0, t.1.1.1.1), λ t. (t.0, (t.1, (t.
 pub row6 : {A B C D E F : Type 0} → (A × (B × (C × (D × (E × F))))) ↔ (A × B × C × D × E × F)
 row6 = (λ t. (t.0, t.1.0, t.1.1.0, t.1.1.1.0, t.1.1.1.1.0, t.1.1.1.1.1), λ t. (t.0, (t.1, (t.2, (t.3, (t.4, t.5))))))
 
--- the guard bits of document 01 can be ordered
+-- the usual guard bits can be ordered
 pub usual_guards : AreGuardBits 2 3
 usual_guards = (omega arith, omega arith, omega arith, omega arith)
 
@@ -108,7 +108,8 @@ is_precision k = kept (in_range k) (in-range k) (λ p. range_in k p.0 p.1)
 pub no_precision : (k : ℕ) → T (not (in_range k)) ↔ (IsPrecision k → ⊥)
 no_precision k = broken (in_range k) (in-range k) (λ p. range_in k p.0 p.1)
 
--- a and b are guard bits that can be ordered; by order alone, so that a term with other limits is refused with a number at which it is wrong
+-- a and b are guard bits that can be ordered; by order alone, so that a term with other limits is refused with a number
+-- at which it is wrong
 guards_told : (g : GuardBits) → guards_in g ≡ true → AreGuardBits g.table g.input
 guards_told g e =
     let r = guards-in g e in
@@ -224,10 +225,11 @@ none_wrong F s = (to, from)
     from : ((j : ℕ) → j < word_count F → IsRightAt F s j) → T (not (ltb (first_wrong (table_of F) s) (word_count F)))
     from f = le→nltb (first_wrong (table_of F) s) (word_count F) (omega (arith, all_right (table_of F) s f))
 
--- where no bit behind the last word is one, the lowest byte with such a one is past the last
+-- where no bit behind the last word is one, the lowest byte with such a one is past the last; by order alone, so that a
+-- term that passes some of these bits is refused with a number at which it is wrong
 pub zero_past : (F : Format) (s : List ℕ) → IsTailZero F s → length s ≤ first_past (table_of F) s
 zero_past F s z =
-    ⊎_elim (λ l. let b = at_first (end_of (table_of F)) s l in absurd (omega (arith, b.3, z b.0 b.1 (omega (arith, l, b.2)))))
+    ⊎_elim (λ l. let b = at_first (end_of (table_of F)) s l in absurd (omega (arith, b.3, z b.0 (omega (arith, b.1)) (omega (arith, l, b.2)))))
     (λ g. g) (below_or_not (first_past (table_of F) s) (length s))
 
 -- some byte has a one behind the last word, and none has

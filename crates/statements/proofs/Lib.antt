@@ -1,6 +1,6 @@
-pub mod Demand1
-pub mod Demand2
-pub mod Demand3
+pub mod Refusals
+pub mod Construction
+pub mod Bound
 pub mod Plain
 pub mod Full
 pub mod Usual
@@ -8,18 +8,18 @@ pub mod Guards
 pub mod Neighbours
 pub mod Printed
 pub mod Examples
-pub mod Iff
-pub mod Numbers
-pub mod Reciprocals
-pub mod Longer
-pub mod Sizes
-pub mod Units
-pub mod Nodes
-pub mod Tails
-pub mod Bits
-pub mod Built
-pub mod Depends
-pub mod Parts
-pub mod Puts
-pub mod Requests
-pub mod TableLines
+mod Iff
+mod Numbers
+mod Reciprocals
+mod Longer
+mod Sizes
+mod Units
+mod Nodes
+mod Tails
+mod Bits
+mod Built
+mod Depends
+mod Parts
+mod Puts
+mod Requested
+mod TableLines

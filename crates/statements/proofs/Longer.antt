@@ -15,7 +15,8 @@ use Rattle.interpolation.specs.Algorithm.{cut_reciprocal}
 use Rattle.interpolation.specs.Reciprocal.{reciprocal}
 use Rattle.interpolation.specs.Calls.{reciprocal_outcome}
 
--- of the m bits, which make the number y, the first 2k + b - n are among the first 2k + b fraction bits, and these are zero
+-- of the m bits, which make the number y, the first 2k + b - n are among the first 2k + b fraction bits, and these are
+-- zero
 module _ (k a b n m X y : ℕ) (h : y < 2 ^ (m - (2 * k + b - n))) where
   cut_same : cut_operand k b (n + m) (X * 2 ^ m + y) ≡ cut_operand k b n X
   cut_same = cut_longer m X y (cut_bits k b) n h

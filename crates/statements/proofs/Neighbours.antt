@@ -1,25 +1,34 @@
--- How far the reciprocals of neighbours lie apart (document 02, Q-5, and what Q-14 says of steps). Its clauses in our own words, each with what settles it;
--- theorems stand on this page where no other is named. They are of every k, every number a of table guard bits and every number b of input guard bits from 1
--- on; only a given reciprocal has them in the ranges that can be ordered.
+-- Neighbours: how far the reciprocals of neighbouring operands lie apart.
 --
--- 1. At equal k and n, a larger operand never has a larger reciprocal: larger_operand. Nor does one that is cut to a larger t, whatever numbers of fraction
---    bits the two have: larger_cut_operand.
--- 2. If two cut operands differ by d, their reciprocals differ by at most d / 2^(b-1) rounded up: cut_steps. With three input guard bits that is d / 4 rounded
---    up: cut_steps_of_quarters. As a step from t to t + d: R never rises, step_falls, and it falls by no more than that, step_limited. R of t + 1 is that of t, or
---    one ulp less: neighbour_same_or_next.
--- 3. So it is for any two operands at one precision with equal guard bits, of whatever n each, by the difference of the t that they are cut or padded to:
---    operand_steps, operand_steps_of_quarters.
--- 4. All of it holds of the reciprocals already given, from whatever two images and in whatever two forms: given_never_larger, given_larger_operand,
---    given_steps, given_steps_of_quarters. These are of the values of `reciprocal_outcome`, which `inverting::reciprocal`, `BoundTable::reciprocal` and the
---    exported calls are promised to answer with; through a bound table it is the outcome on its image (bound-reciprocal, in Demand1). `asked f k a b` is the
---    format of form f, precision k and guard bits a and b, and every format is one: every_format.
--- 5. Also across nodes: the two may lie in any pieces in all of these. What is behind it: each step of t, the last one of a piece too, takes the difference of
---    its two nodes off P, sum_falls, which is less than 2^(k+a+1) (node_difference, in Demand3), so less than 2 / 2^b of an ulp in P.
--- 6. For d below 2^k the limit cannot be lowered: from the least t each such step reaches it, whatever the precision and the guard bits: limit_reached. Steps
---    that reach it inside a piece and across nodes are among the set examples: step_examples, proved in proofs/Examples.antt.
+-- The theorems are of every k, every number a of table guard bits and every number b of input guard bits from 1 on.
+-- Only a given reciprocal has them in the ranges that can be ordered.
+-- `cut_reciprocal k a b t` is R of a cut operand t, and `reciprocal k a b n X` that of an operand X.
+-- `apart x y` is how far two numbers lie apart, and `rounded_up d q` is d / q rounded up.
+-- Each clause names the theorems that settle it, which stand on this page where no other is named.
 --
--- `cut_reciprocal k a b t` is R of a cut operand t and `reciprocal k a b n X` that of an operand X; `apart x y` is how far two numbers lie apart, and
--- `rounded_up d q` is d / q rounded up.
+-- 1. At equal k and n, a larger operand never has a larger reciprocal: larger_operand.
+--    Nor does one that is cut to a larger t, whatever numbers of fraction bits the two have: larger_cut_operand.
+-- 2. If two cut operands differ by d, their reciprocals differ by at most d / 2^(b-1) rounded up: cut_steps.
+--    With three input guard bits that is d / 4 rounded up: cut_steps_of_quarters.
+--    From t to t + d, R never rises: step_falls.
+--    It falls by no more than that: step_limited.
+--    R of t + 1 is that of t, or one ulp less: neighbour_same_or_next.
+-- 3. The same holds for any two operands at one precision with equal guard bits, of whatever n each, by the difference
+--    of the t that they are cut or padded to: operand_steps, operand_steps_of_quarters.
+-- 4. All of it holds of the reciprocals already given, from whatever two images and in whatever two forms:
+--    given_never_larger, given_larger_operand, given_steps, given_steps_of_quarters.
+--    These are of the values of `reciprocal_outcome`, which `inverting::reciprocal`, `BoundTable::reciprocal` and the
+--    exported calls are promised to answer with.
+--    Through a bound table it is the outcome on its image: bound-reciprocal, on the page Refusals.
+--    `asked f k a b` is the format of form f, precision k and guard bits a and b, and every format is one:
+--    every_format.
+-- 5. All of it holds across nodes too: the two may lie in any pieces.
+--    Each step of t, the last one of a piece too, takes the difference of its two nodes off P: sum_falls.
+--    That is less than 2^(k+a+1), so less than 2 / 2^b of an ulp: node_difference, on the page Bound.
+-- 6. For d below 2^k the limit cannot be lowered: from the least t each such step reaches it, whatever the precision
+--    and the guard bits: limit_reached.
+--    Steps that reach it inside a piece and across nodes are among the set examples: examples_hold, on the page
+--    Examples.
 use mathlib.Core.Path.{◌≡◌, refl}
 use mathlib.Core.Logic.{◌⊎◌, ⊎_map}
 use mathlib.Core.List.{List}
@@ -37,9 +46,9 @@ use Rattle.operand.proofs.Laws.{cut_normalised, cut_ordered}
 use Rattle.interpolation.specs.Algorithm.{node_number, cut_product_sum, cut_reciprocal}
 use Rattle.interpolation.specs.Reciprocal.{reciprocal}
 use Rattle.interpolation.specs.Calls.{reciprocal_outcome}
+use Rattle.interpolation.proofs.Given
 use Rattle.interpolation.proofs.Neighbours as neighbours
-use Rattle.statements.specs.Terms.{AreGuardBits, IsNormalised, IsCutOperand, apart}
-use Rattle.statements.proofs.Reciprocals
+use Rattle.statements.specs.Terms.{IsNormalised, IsCutOperand, apart}
 
 -- two numbers neither of which is more than U above the other
 both_within : (x y U : ℕ) → x ≤ y + U → y ≤ x + U → apart x y ≤ U
@@ -107,7 +116,8 @@ operand_steps_of_quarters k a n X n' X' o o' = operand_steps k a 3 n X n' X' o o
 pub every_format : (F : Format) → asked F.form (precision_of F) (table_bits F) (input_bits F) ≡ F
 every_format F = refl
 
--- Two reciprocals that are given at one precision with equal guard bits: nothing is assumed of the images s and s', nor of the forms of their words.
+-- Two reciprocals that are given at one precision with equal guard bits: nothing is assumed of the images s and s', nor
+-- of the forms of their words.
 module _ (k a b : ℕ) (f f' : Form) (s s' : List ℕ) (n X n' X' : ℕ) (given : (reciprocal_outcome (asked f k a b) s n X).number ≡ 0)
     (given' : (reciprocal_outcome (asked f' k a b) s' n' X').number ≡ 0) where
   abbrev R : ℕ
@@ -117,22 +127,25 @@ module _ (k a b : ℕ) (f f' : Form) (s s' : List ℕ) (n X n' X' : ℕ) (given 
   R' = (reciprocal_outcome (asked f' k a b) s' n' X').value
 
   is_R : R ≡ reciprocal k a b n X
-  is_R = Reciprocals.given_right (asked f k a b) s n X given
+  is_R = Given.given_right (asked f k a b) s n X given
 
   is_R' : R' ≡ reciprocal k a b n' X'
-  is_R' = Reciprocals.given_right (asked f' k a b) s' n' X' given'
+  is_R' = Given.given_right (asked f' k a b) s' n' X' given'
 
-  range : AreGuardBits a b × IsNormalised n X
-  range = Reciprocals.given_in_range (asked f k a b) s n X given
+  operand : IsNormalised n X
+  operand = let o = (Given.given_in_range (asked f k a b) s n X given).1 in (o.least, o.below)
 
-  range' : AreGuardBits a b × IsNormalised n' X'
-  range' = Reciprocals.given_in_range (asked f' k a b) s' n' X' given'
+  operand' : IsNormalised n' X'
+  operand' = let o = (Given.given_in_range (asked f' k a b) s' n' X' given').1 in (o.least, o.below)
+
+  some : 1 ≤ b
+  some = omega (arith, (Given.given_in_range (asked f k a b) s n X given).0.guard.input_least)
 
   pub given_never_larger : cut_operand k b n X ≤ cut_operand k b n' X' → R' ≤ R
-  given_never_larger h = rw (is_R, is_R') (larger_cut_operand k a b n X n' X' range.1 range'.1 h)
+  given_never_larger h = rw (is_R, is_R') (larger_cut_operand k a b n X n' X' operand operand' h)
 
   pub given_steps : apart R R' ≤ rounded_up (apart (cut_operand k b n X) (cut_operand k b n' X')) (2 ^ (b - 1))
-  given_steps = rw (is_R, is_R') (operand_steps k a b n X n' X' range.1 range'.1 (omega (arith, range.0.2)))
+  given_steps = rw (is_R, is_R') (operand_steps k a b n X n' X' operand operand' some)
 
 -- With as many fraction bits,
 pub given_larger_operand : (k a b : ℕ) (f f' : Form) (s s' : List ℕ) (n X X' : ℕ) → (reciprocal_outcome (asked f k a b) s n X).number ≡ 0

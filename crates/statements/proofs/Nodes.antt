@@ -1,4 +1,4 @@
--- Facts of the nodes that the page of demand 2 cites: their bits, and what words stand for.
+-- Facts of the nodes that the page Construction cites: their bits, and what words stand for.
 -- Assumes nothing.
 use mathlib.Core.Path.{◌≡◌, sym, ◌∙◌, ap}
 use mathlib.Core.Logic.{◌↔◌}

@@ -1,5 +1,5 @@
--- The numbers of the calls: the limits of a format and the buffer before any list of refusals, the check where a word or the tail is wrong,
--- and the last refusals of reading a node.
+-- The numbers of the calls: the limits of a format and the buffer before any list of refusals, the check where a word
+-- or the tail is wrong, and the last refusals of reading a node.
 -- Assumes nothing.
 use mathlib.Core.Path.{◌≡◌, refl, sym, ◌∙◌, ap}
 use mathlib.Core.Logic.{◌↔◌}
@@ -19,7 +19,8 @@ use Rattle.layout.specs.Layout.{end_of, first_wrong, first_past}
 use Rattle.layout.specs.Refusals.{length_refusal, image_refusal, word_refusal, tail_refusal}
 use Rattle.layout.proofs.Laws.{all_right, wrong_there, right_before}
 use Rattle.image.specs.Image.{table_of}
-use Rattle.image.specs.Refusals.{precision_refusal, guard_refusal, node_refusal, limits}
+use Rattle.nodes.specs.Refusals.{precision_refusal, guard_refusal}
+use Rattle.image.specs.Refusals.{node_refusal, limits}
 use Rattle.image.specs.Calls.{check_outcome, node_refusals}
 use Rattle.image.proofs.Checks.{check_wrong, check_past}
 use Rattle.image.proofs.Limits.{limit_none, limit_passes}

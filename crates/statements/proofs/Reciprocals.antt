@@ -1,4 +1,5 @@
--- The answer of the reciprocal: the limits of n and X before any list of refusals, the two words that are read, and the whole call.
+-- The answer of the reciprocal: the limits of n and X before any list of refusals, the two words that are read, and the
+-- whole call.
 -- Assumes nothing.
 use mathlib.Core.Path.{◌≡◌, sym, ◌∙◌, ap, ap₂}
 use mathlib.Core.Logic.{◌↔◌, ◌⊎◌, ⊎_elim}
@@ -237,17 +238,3 @@ module _ (F : Format) (s : List ℕ) (n X : ℕ) where
       ⊎_elim (λ f. absurd (f r))
       (λ u. ap (λ (a : Outcome). a.place) (upper_named t.0 t.1 t.2 t.3 r u.0 u.1))
       t.4
-
-  -- what is given is R
-  pub given_right : (reciprocal_outcome F s n X).number ≡ 0 → (reciprocal_outcome F s n X).value ≡ reciprocal k a b n X
-  given_right e =
-      let t = reciprocal_0.0 e in
-      ap (λ (a : Outcome). a.value) (gives t.0 t.1 t.2 t.3 t.4 t.5)
-
-  -- and guard bits and operand are in their ranges then
-  pub given_in_range : (reciprocal_outcome F s n X).number ≡ 0 → AreGuardBits a b × IsNormalised n X
-  given_in_range e = let t = reciprocal_0.0 e in (t.0.1, t.3)
-
-  -- and has what R has for all guard bits and every operand in range
-  pub given_has : (reciprocal_outcome F s n X).number ≡ 0 → (Q : ℕ → Type 0) → (AreGuardBits a b → 2 ^ n ≤ X → X < 2 ^ (n + 1) → Q (reciprocal k a b n X)) → Q (reciprocal_outcome F s n X).value
-  given_has e Q holds = let t = reciprocal_0.0 e in rw (given_right e) (holds t.0.1 t.3.0 t.3.1)

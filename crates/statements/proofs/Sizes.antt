@@ -1,4 +1,5 @@
--- P between both nodes, how large the numbers of the algorithms are, for every k, a, b and t, and that they fit 64 bits where k, a and b are in their ranges.
+-- P between both nodes, how large the numbers of the algorithms are, for every k, a, b and t, and that they fit 64 bits
+-- where k, a and b are in their ranges.
 -- Assumes nothing.
 use mathlib.Core.Path.{◌≡◌, sym, ap, ◌∙◌}
 use mathlib.Core.Logic.{⊎_elim}

@@ -1,4 +1,5 @@
--- What stands behind the last word of a buffer, bit by bit and byte by byte: the bits that fill the image's last byte, and the bytes past the image.
+-- What stands behind the last word of a buffer, bit by bit and byte by byte: the bits that fill the image's last byte,
+-- and the bytes past the image.
 -- Assumes nothing.
 use mathlib.Core.Path.{◌≡◌, refl, ◌∙◌, ap}
 use mathlib.Core.Logic.{◌↔◌, ⊎_elim}

@@ -1,5 +1,5 @@
--- The set examples of document 01 that are marked P, those of document 02 for Q-2 and Q-7, ours for Q-1, Q-2, Q-5, Q-7 and Q-14, and the printed table, as
--- literals, and what each says of the definitions that the contracts cite.
+-- The set examples as literals, and what each says of the definitions that the contracts cite.
+-- They are of image lengths, images, full ROMs, faulty buffers, reciprocals, steps, refusals and the printed table.
 -- Assumes nothing.
 use Rattle.std.specs.Prelude.{◌≡◌, ◌+◌, ◌-◌, ◌^◌, List, [], ◌∷◌, ◌++◌, map, ℕ, zero, suc, length, replicate}
 use Rattle.quotient.specs.Quotient.{rounded_up}
@@ -116,7 +116,8 @@ abbrev pub read_nodes : Format → List ℕ → ℕ → List Outcome
 read_nodes F s zero = []
 read_nodes F s (suc n) = read_nodes F s n ++ (node_outcome F s n ∷ [])
 
--- a buffer of as many bytes as the image, all of them 255, is served and built to the image; its nodes are read back; it passes the check
+-- a buffer of as many bytes as the image, all of them 255, is served and built to the image; its nodes are read back;
+-- it passes the check
 pub record ImageHolds (e : ImageExample) : Type 0 where
   pub answered : build_outcome e.F (replicate (length e.bytes) 255) ≡ served 0
   pub built : build_leaves e.F (replicate (length e.bytes) 255) ≡ e.bytes
@@ -148,11 +149,14 @@ pub record FaultExample : Type 0 where
   pub number : ℕ
   pub place : ℕ
 
--- of the second both 6 and 7 apply, and of the seventh, the ninth and the thirteenth too; the full words of k = 1 leave six bits of byte 2, of which the third example has the last one
--- set, the fourth the first one and a byte past the image with it; the fifth has a one too many in the word of node 2, which is node 2^k. Those of k = 3
--- leave six bits of byte 11, and the word of node 8, which is node 2^k, ends in it: there the places of 6 and 7 are apart. With three table guard bits the
--- plain words of k = 1 leave six bits of byte 1, of which the last, the first and all are set; the word of node 1, which ends in that byte, is wrong; and a
--- byte past the image is not zero. The full words leave three bits of byte 2, of which the first is set, and the bit before it, the last of node 2's word
+-- of the second both 6 and 7 apply, and of the seventh, the ninth and the thirteenth too.
+-- The full words of k = 1 leave six bits of byte 2: the third example has the last one set, the fourth the first one
+-- and a byte past the image with it. The fifth has a one too many in the word of node 2, which is node 2^k.
+-- Those of k = 3 leave six bits of byte 11, and the word of node 8, which is node 2^k, ends in it: there the places of
+-- 6 and 7 are apart.
+-- With three table guard bits the plain words of k = 1 leave six bits of byte 1. The last, the first and all are set;
+-- then the word of node 1, which ends in that byte, is wrong; then a byte past the image is not zero.
+-- The full words leave three bits of byte 2. The first is set; then the bit before it, the last of node 2's word
 abbrev pub fault_examples : List FaultExample
 fault_examples =
     record { F = plain_of 2; bytes = 0x02 ∷ 0x75 ∷ 0x8A ∷ 0x00 ∷ 0x01 ∷ []; number = 7; place = 4 }
@@ -186,8 +190,9 @@ fault_examples =
 abbrev pub FaultHolds : FaultExample → Type 0
 FaultHolds e = check_outcome e.F e.bytes ≡ record { number = e.number; place = e.place; value = 0 }
 
--- an image above with other bits behind its last word: the check turns it back by 7 at its last byte, but the nodes are read as from the image, node 2^k among
--- them, and so is the reciprocal of X with n fraction bits given, R, which stands on node 2^k
+-- an image above with other bits behind its last word: the check turns it back by 7 at its last byte, but the nodes are
+-- read as from the image, node 2^k among them, and so is the reciprocal of X with n fraction bits given, R, which
+-- stands on node 2^k
 pub record DirtyExample : Type 0 where
   pub from : ImageExample
   pub bytes : List ℕ
@@ -207,7 +212,7 @@ pub record DirtyHolds (e : DirtyExample) : Type 0 where
   pub read : read_nodes e.from.F e.bytes (length e.from.nodes) ≡ map served e.from.nodes
   pub given : reciprocal_outcome e.from.F e.bytes e.n e.X ≡ served e.R
 
--- the image above whose format and bytes are used, the operand X with n fraction bits, P where document 01 gives it, and R
+-- the image above whose format and bytes are used, the operand X with n fraction bits, P for some, and R
 pub record ReciprocalExample : Type 0 where
   pub from : ImageExample
   pub n : ℕ
@@ -215,8 +220,10 @@ pub record ReciprocalExample : Type 0 where
   pub P : List ℕ
   pub R : ℕ
 
--- 2^63 + 1 and 2^64 - 1 are written out. With three table guard bits R of 53 / 32 at k = 1 is another than with two, with four input guard bits that of 65 / 64, and
--- with five that of 129 / 128 another than with four
+-- 2^63 + 1 and 2^64 - 1 are written out.
+-- With three table guard bits R of 53 / 32 at k = 1 is another than with two.
+-- With four input guard bits R of 65 / 64 is another than with three.
+-- With five that of 129 / 128 is another than with four
 abbrev pub reciprocal_examples : List ReciprocalExample
 reciprocal_examples =
     record { from = image2; n = 7; X = 128; P = []; R = 32 }
@@ -307,8 +314,8 @@ pub record LimitExample : Type 0 where
   pub bytes : List ℕ
   pub number : ℕ
 
--- guard bits out of their ranges, each alone in a buffer that is long enough, and one of them and both in buffers that are too short; behind a precision that is none; and, in their
--- ranges, before a buffer that is too short
+-- guard bits out of their ranges, each alone in a buffer that is long enough, and one of them and both in buffers that
+-- are too short; behind a precision that is none; and, in their ranges, before a buffer that is too short
 abbrev pub limit_examples : List LimitExample
 limit_examples =
     record { F = asked Plain 2 1 3; bytes = 0x00 ∷ 0x00 ∷ 0x00 ∷ []; number = 18 }
@@ -325,8 +332,8 @@ limit_examples =
     ∷ record { F = asked Full 2 4 5; bytes = 0x80 ∷ 0x19 ∷ 0xA5 ∷ 0x59 ∷ 0x25 ∷ 0x40 ∷ []; number = 2 }
     ∷ []
 
--- the builder and the check, reading of a node that is there and of one that is not, and the reciprocal of an operand in its limits and of one that breaks
--- both; the builder leaves the buffer, and no bytes are shown
+-- the builder and the check, reading of a node that is there and of one that is not, and the reciprocal of an operand
+-- in its limits and of one that breaks both; the builder leaves the buffer, and no bytes are shown
 pub record LimitHolds (e : LimitExample) : Type 0 where
   pub build : build_outcome e.F e.bytes ≡ record { number = e.number; place = 0; value = 0 }
   pub leaves : build_leaves e.F e.bytes ≡ e.bytes
@@ -342,7 +349,7 @@ pub record TextExample : Type 0 where
   pub input : List ℕ
   pub text : List ℕ
 
--- the table that document 01 prints in full, for "2" and a line feed, line by line as it stands there
+-- the table of precision 2 in full, which "2" and a line feed ask for, line by line
 abbrev pub text_of_2 : List ℕ
 text_of_2 =
     112 ∷ 114 ∷ 101 ∷ 99 ∷ 105 ∷ 115 ∷ 105 ∷ 111 ∷ 110 ∷ 32 ∷ 50 ∷ 32 ∷ 98 ∷ 121 ∷ 116 ∷ 101 ∷ 115 ∷ 32 ∷ 51 ∷ 10

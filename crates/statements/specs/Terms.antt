@@ -1,8 +1,14 @@
--- The terms in which the theorems speak of a precision k, guard bits a and b, a format F, a buffer s, a node j and an operand X with n fraction bits. A
--- format asks for a precision, `precision_of F`, a form, plain or full words, and guard bits, a of the table, `table_bits F`, and b of the input,
--- `input_bits F`; `asked f k a b` is the one that asks for these. `word_count F` is how many words its image has, 2^k plain and 2^k + 1 full; `word_width F`
--- the bits of one, 2k + a plain and 2k + a + 2 full; `image_length F` the bytes that these words take, the last one filled with zero bits. `plain_of k` and
--- `full_of k` are the two formats of precision k with a = 2 and b = 3 (proofs/Plain.antt and proofs/Full.antt have all of this in numbers).
+-- The terms in which the theorems speak of a precision k, guard bits a and b, a format F, a buffer s, a node j and an
+-- operand X with n fraction bits.
+--
+-- A format asks for a precision, `precision_of F`, and a form, plain or full words.
+-- It asks for guard bits, a of the table, `table_bits F`, and b of the input, `input_bits F`.
+-- `asked f k a b` is the one that asks for these.
+-- `word_count F` is how many words its image has, 2^k plain and 2^k + 1 full.
+-- `word_width F` is the bits of one, 2k + a plain and 2k + a + 2 full.
+-- `image_length F` is the bytes that these words take, the last one filled with zero bits.
+-- `plain_of k` and `full_of k` are the two formats of precision k with a = 2 and b = 3.
+-- The pages Plain and Full have all of this in numbers.
 -- Assumes nothing.
 use Rattle.std.specs.Prelude.{◌≡◌, List, ℕ, ◌+◌, ◌-◌, ◌*◌, ◌/◌, ◌%◌, ◌^◌, ◌≤◌, ◌<◌, length}
 use Rattle.format.specs.Format.{precision_of, table_bits, input_bits, word_count, word_width, image_length}
@@ -42,7 +48,8 @@ IsRightAt F s j = word_of F s j ≡ right_word F.form (precision_of F) (table_bi
 abbrev pub IsSetPast : Format → List ℕ → ℕ → Type 0
 IsSetPast F s i = (i < length s) × ((bit : ℕ) × (word_count F * word_width F ≤ bit) × (bit / 8 ≡ i) × (bit_at s bit ≡ 1))
 
--- nothing stands behind the last word of a buffer: each bit there is zero, whether it fills the image's last byte or stands past the image
+-- nothing stands behind the last word of a buffer: each bit there is zero, whether it fills the image's last byte or
+-- stands past the image
 abbrev pub IsTailZero : Format → List ℕ → Type 0
 IsTailZero F s = (bit : ℕ) → word_count F * word_width F ≤ bit → bit < 8 * length s → bit_at s bit ≡ 0
 

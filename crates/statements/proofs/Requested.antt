@@ -7,10 +7,11 @@ use Prim.Native.Nat.{ℕ, ◌+◌, ◌^◌, ◌≤◌, ◌<◌}
 use native.Mathlib.Nat.{pow-le-pow_right}
 use native.Mathlib.Omega.{arith}
 use lib.ListN.{length, take}
-use Rattle.std.specs.Prelude.{Option, Some, None}
+use Rattle.std.specs.Prelude.{Option, Some, None, decimal}
+use Rattle.std.proofs.lemmas.Fmt.{length-decimal-le}
 use Rattle.precision.specs.Precision.{in_range}
-use Rattle.decimal.specs.Decimal.{decimal, is_digits, decimal_value}
-use Rattle.decimal.proofs.Laws.{decimal_digits, length_decimal_below, value-decimal, is_all, value_below}
+use Rattle.decimal.specs.Decimal.{is_digits, decimal_value}
+use Rattle.decimal.proofs.Laws.{decimal_digits, value-decimal, is_all, value_below}
 use Rattle.lines.specs.Lines.{line_feed, line_reading, refused_text}
 use Rattle.lines.proofs.ReadLines.{digits_read, read_digits}
 use Rattle.table_text.specs.TableText.{precision_of, lines, header, table_of, text_of, table_text}
@@ -35,7 +36,7 @@ request_of_digits d e h =
 
 pub request_of_number : (n : ℕ) → n < 10 ^ 9 → precision_of (decimal n ++ line_feed ∷ []) ≡ n
 request_of_number n h =
-    request_of_digits (decimal n) (decimal_digits n) (length_decimal_below 9 n (omega arith) h) ∙ value-decimal n (omega arith)
+    request_of_digits (decimal n) (decimal_digits n) (length-decimal-le 9 n (omega arith) h (omega arith)) ∙ value-decimal n (omega arith)
 
 -- and nothing else is one: what counts as another precision than 0 is a request for it
 pub request_is_digits : (s : List ℕ) → (precision_of s ≡ 0 → ⊥) → (d : List ℕ) × (is_digits d ≡ true) × (length d ≤ 9) × (s ≡ d ++ line_feed ∷ []) × (precision_of s ≡ decimal_value d)

@@ -1,31 +1,53 @@
--- Demand 3: the bound. Its clauses in our own words, each with what settles it; theorems stand on this page where no other is named. All of them are in
--- the table guard bits a and the input guard bits b; document 01's case, a = 2 and b = 3, in its numbers, is in proofs/Usual.antt.
+-- Bound: a reciprocal that is given is R, and R × X lies within X of 2^(n+2k+1), which is less than one ulp.
 --
--- 1. At every precision, with all guard bits, for every n from 1 to 63 and every normalised X, R × X and 2^(n+2k+1) are less than X apart: bound_low,
---    bound_high, for every k, every n, every a from 2 and every b from 3, since 12, 4, 5, 1 and 63 are limits of the call alone. That is less than one ulp:
---    ulps_low, ulps_high, with exact_in_ulps and reciprocal_of_one for what an ulp is.
--- 2. A reciprocal that is given, which is one with the number 0, is this R: given_is_R. So the bound holds of it: given_low, given_high. When
---    one is given: reciprocal_serves, in Demand1; from every built image: built_gives, in Demand2.
--- 3. Whatever bytes the image holds: s is any list of numbers in given_is_R, given_low and given_high, and nothing is assumed of it.
--- 4. Wherever the image came from: these three ask for the number 0 and for nothing else, so neither that the image was built here nor that it
---    passed the check. A bound table takes any image too and answers as the call on an image does: bound-reciprocal, in Demand1. Nor does the form of its
---    words count: what is given from a plain image and from a full one of equal guard bits is the same, given_in_both (from built images so is all of the
---    answer: forms_agree, in Demand2).
--- 5. Bits that are written to the right of X do not change R where X has 2k + b fraction bits or more: longer_reciprocal. From n = 1 on, and while there are
---    at most 63 fraction bits in all, they do not change the answer from the same image, in either form, in one equation for number, place and value:
---    longer_answer. Where X has fewer than 2k + b, the same holds where those that come to stand among the first 2k + b are zero:
---    padded_reciprocal, padded_answer. Zeros alone change R at no n, and from n = 1 up to 63 in all not the answer either: zeros_reciprocal,
---    zeros_answer. A written bit that is not zero can change R: written_bit_counts. All but the last are of every X, normalised or not.
---
--- Beside the demand: R runs from 2^(2k) to 2^(2k+1) at every n: reciprocal_from, reciprocal_to. The least operand reaches the upper end at every
--- n, the greatest the lower at the latest from n = 2k + b on: reciprocal_of_least, reciprocal_of_greatest. How far neighbours lie apart:
--- proofs/Neighbours.antt. The sizes of document 002's Lemma 1:
--- node_difference, fraction_below, product_below. That no number of the algorithms overflows 64 bits up to k = 12, a = 4 and b = 5, where P and its products have at
--- most 47: first_product_below, product_sum_below, most_bits; first_product_fits, second_product_fits, product_sum_fits; and, where nodes are made and
--- words judged, numerator_fits, judged_product_fits.
---
--- `reciprocal k a b n X` is R (Demand2 has its steps), which no form has a part in, and `reciprocal_outcome F s n X` is the answer of the call for a format F;
+-- Bits written to the right of an operand, up to 63 fraction bits in all, can change an answer only where they stand
+-- among its first 2k + b and are not zero.
+-- Each theorem is in the table guard bits a and the input guard bits b.
+-- The page Usual has the case a = 2 and b = 3 in numbers.
+-- `reciprocal k a b n X` is R, in which no form has a part; the page Construction has its steps.
+-- `reciprocal_outcome F s n X` is the answer of the call for a format F.
 -- `asked f k a b` is the format of precision k, form f and guard bits a and b.
+-- Each clause names the theorems that settle it, which stand on this page where no other is named.
+--
+-- 1. At every precision, with all guard bits, for every n from 1 to 63 and every normalised X, R × X and 2^(n+2k+1) are
+--    less than X apart: bound_low, bound_high.
+--    These are of every k, every n, every a from 2 and every b from 3, since 12, 4, 5, 1 and 63 are limits of the call
+--    alone.
+--    That is less than one ulp: ulps_low, ulps_high.
+--    What an ulp is: exact_in_ulps, reciprocal_of_one.
+-- 2. A reciprocal that is given, which is one with the number 0, is this R: given_is_R.
+--    So the bound holds of it: given_low, given_high.
+--    When one is given: reciprocal_serves, on the page Refusals.
+--    From every built image one is: built_gives, on the page Construction.
+-- 3. It holds whatever bytes the image holds: s is any list of numbers in given_is_R, given_low and given_high, and
+--    nothing is assumed of it.
+-- 4. It holds wherever the image came from: these three ask for the number 0 and for nothing else.
+--    They ask neither that the image was built here nor that it passed the check.
+--    A bound table takes any image too, and answers as the call on an image does: bound-reciprocal, on the page
+--    Refusals.
+--    Nor does the form of its words count.
+--    What is given from a plain image and from a full one of equal guard bits is the same: given_in_both.
+--    From built images so is all of the answer: forms_agree, on the page Construction.
+-- 5. Bits that are written to the right of X do not change R where X has 2k + b fraction bits or more:
+--    longer_reciprocal.
+--    From n = 1 on, and while there are at most 63 fraction bits in all, they do not change the answer from the same
+--    image, in either form: longer_answer.
+--    That is one equation for number, place and value.
+--    Where X has fewer than 2k + b, the same holds where those that come to stand among the first 2k + b are zero:
+--    padded_reciprocal, padded_answer.
+--    Zeros alone change R at no n, and from n = 1 up to 63 in all not the answer either: zeros_reciprocal,
+--    zeros_answer.
+--    A written bit that is not zero can change R: written_bit_counts.
+--    All but the last are of every X, normalised or not.
+-- 6. R runs from 2^(2k) to 2^(2k+1) at every n: reciprocal_from, reciprocal_to.
+--    The least operand reaches the upper end at every n: reciprocal_of_least.
+--    The greatest reaches the lower one, at the latest from n = 2k + b on: reciprocal_of_greatest.
+--    How far neighbours lie apart is said by the page Neighbours.
+-- 7. The sizes of Das Sarma and Matula, Lemma 1: node_difference, fraction_below, product_below.
+-- 8. No number of the algorithms overflows 64 bits up to k = 12, a = 4 and b = 5.
+--    There P and its products have at most 47: first_product_below, product_sum_below, most_bits.
+--    So they fit: first_product_fits, second_product_fits, product_sum_fits.
+--    So do the numbers by which nodes are made and words judged: numerator_fits, judged_product_fits.
 use mathlib.Core.Path.{◌≡◌, refl, sym, ◌∙◌}
 use mathlib.Core.List.{List}
 use Prim.Native.Nat.{ℕ, ◌+◌, ◌-◌, ◌*◌, ◌^◌, ◌≤◌, ◌<◌}
@@ -42,6 +64,7 @@ use Rattle.interpolation.specs.Reciprocal.{reciprocal}
 use Rattle.interpolation.specs.Calls.{reciprocal_outcome}
 use Rattle.interpolation.proofs.Bound.{reciprocal_low, reciprocal_high}
 use Rattle.interpolation.proofs.Cut.{cut_fraction_below}
+use Rattle.interpolation.proofs.Given
 use Rattle.statements.specs.Terms.{IsPrecision, AreGuardBits, IsOffered}
 use Rattle.statements.proofs.Longer
 use Rattle.statements.proofs.Reciprocals
@@ -56,7 +79,8 @@ module _ (k a b n X : ℕ) (units : 2 ≤ a) (steps : 3 ≤ b) (least : 2 ^ n �
   pub bound_high : reciprocal k a b n X * X < 2 ^ (n + 2 * k + 1) + X
   bound_high = reciprocal_high k a b units steps n X least below
 
-  -- in ulps: R of them differ from the exact reciprocal of X / 2^n, which is 2^n / X, by less than one; both sides are multiplied by X
+  -- in ulps: R of them differ from the exact reciprocal of X / 2^n, which is 2^n / X, by less than one; both sides are
+  -- multiplied by X
   pub ulps_low : ulps_in_one k * 2 ^ n < reciprocal k a b n X * X + X
   ulps_low = rw (Units.reciprocal_exact k n) at bound_low
 
@@ -71,35 +95,39 @@ module _ (k n : ℕ) where
   pub reciprocal_of_one : (a b : ℕ) → reciprocal k a b n (2 ^ n) ≡ ulps_in_one k
   reciprocal_of_one a b = Reciprocals.reciprocal_of_least k a b n (2 ^ n) refl
 
--- Given means right: nothing is assumed of the image s, nor of the format F, of n and of X, but that a reciprocal is given.
+-- Given means right: nothing is assumed of the image s, nor of the format F, of n and of X, but that a reciprocal is
+-- given.
 module _ (F : Format) (s : List ℕ) (n X : ℕ) (given : (reciprocal_outcome F s n X).number ≡ 0) where
   pub given_is_R : (reciprocal_outcome F s n X).value ≡ reciprocal (precision_of F) (table_bits F) (input_bits F) n X
-  given_is_R = Reciprocals.given_right F s n X given
+  given_is_R = Given.given_right F s n X given
 
   -- and the bound holds of it
   pub given_low : 2 ^ (n + 2 * precision_of F + 1) < (reciprocal_outcome F s n X).value * X + X
-  given_low = Reciprocals.given_has F s n X given (λ R. 2 ^ (n + 2 * precision_of F + 1) < R * X + X) (λ g. bound_low (precision_of F) (table_bits F) (input_bits F) n X g.0 g.2)
+  given_low = Given.given_low F s n X given
 
   pub given_high : (reciprocal_outcome F s n X).value * X < 2 ^ (n + 2 * precision_of F + 1) + X
-  given_high = Reciprocals.given_has F s n X given (λ R. R * X < 2 ^ (n + 2 * precision_of F + 1) + X) (λ g. bound_high (precision_of F) (table_bits F) (input_bits F) n X g.0 g.2)
+  given_high = Given.given_high F s n X given
 
 -- What a plain image and a full one of equal guard bits give for an operand is the same, whoever wrote them.
 pub given_in_both : (k a b : ℕ) (s s' : List ℕ) (n X : ℕ) → (reciprocal_outcome (asked Plain k a b) s n X).number ≡ 0 → (reciprocal_outcome (asked Full k a b) s' n X).number ≡ 0
     → (reciprocal_outcome (asked Plain k a b) s n X).value ≡ (reciprocal_outcome (asked Full k a b) s' n X).value
 given_in_both k a b s s' n X e d = given_is_R (asked Plain k a b) s n X e ∙ sym (given_is_R (asked Full k a b) s' n X d)
 
--- Bits to the right: m bits, which make the number y, written to the right of any X, normalised or not, that has 2k + b fraction bits or more.
+-- Bits to the right: m bits, which make the number y, written to the right of any X, normalised or not, that has 2k + b
+-- fraction bits or more.
 module _ (k a b n m X y : ℕ) (enough : 2 * k + b ≤ n) (bits : y < 2 ^ m) where
   -- they do not change R
   pub longer_reciprocal : reciprocal k a b (n + m) (X * 2 ^ m + y) ≡ reciprocal k a b n X
   longer_reciprocal = Longer.reciprocal_same k a b n m X y (all_behind (2 * k + b) n m y enough bits)
 
-  -- nor, up to 63 in all, the answer: number, place and value from the same image, whatever it holds and however long it is
+  -- nor, up to 63 in all, the answer: number, place and value from the same image, whatever it holds and however long
+  -- it is
   pub longer_answer : 1 ≤ n → n + m ≤ 63 → (f : Form) (s : List ℕ) → reciprocal_outcome (asked f k a b) s (n + m) (X * 2 ^ m + y) ≡ reciprocal_outcome (asked f k a b) s n X
   longer_answer = Longer.outcome_same k a b n m X y (all_behind (2 * k + b) n m y enough bits)
 
--- Where X has fewer, so that some of the m bits come to stand among the first 2k + b fraction bits, the same holds where those are zero: y is
--- below 2^(n+m-2k-b). The difference stops at 0, so that y is 0 where all m of them are among the first.
+-- Where X has fewer, so that some of the m bits come to stand among the first 2k + b fraction bits, the same holds
+-- where those are zero: y is below 2^(n+m-2k-b). The difference stops at 0, so that y is 0 where all m of them are
+-- among the first.
 module _ (k a b n m X y : ℕ) (few : n ≤ 2 * k + b) (zeros : y < 2 ^ (n + m - (2 * k + b))) where
   pub padded_reciprocal : reciprocal k a b (n + m) (X * 2 ^ m + y) ≡ reciprocal k a b n X
   padded_reciprocal = Longer.reciprocal_same k a b n m X y (zeros_before (2 * k + b) n m y few zeros)
@@ -107,7 +135,8 @@ module _ (k a b n m X y : ℕ) (few : n ≤ 2 * k + b) (zeros : y < 2 ^ (n + m -
   pub padded_answer : 1 ≤ n → n + m ≤ 63 → (f : Form) (s : List ℕ) → reciprocal_outcome (asked f k a b) s (n + m) (X * 2 ^ m + y) ≡ reciprocal_outcome (asked f k a b) s n X
   padded_answer = Longer.outcome_same k a b n m X y (zeros_before (2 * k + b) n m y few zeros)
 
--- Zeros do not change R at any n, nor the answer from n = 1 up to 63 fraction bits in all: a caller may pad an operand or leave it as it is.
+-- Zeros do not change R at any n, nor the answer from n = 1 up to 63 fraction bits in all: a caller may pad an operand
+-- or leave it as it is.
 module _ (k a b n m X : ℕ) where
   pub zeros_reciprocal : reciprocal k a b (n + m) (X * 2 ^ m) ≡ reciprocal k a b n X
   zeros_reciprocal = Longer.reciprocal_zeros k a b n m X
@@ -115,7 +144,8 @@ module _ (k a b n m X : ℕ) where
   pub zeros_answer : 1 ≤ n → n + m ≤ 63 → (f : Form) (s : List ℕ) → reciprocal_outcome (asked f k a b) s (n + m) (X * 2 ^ m) ≡ reciprocal_outcome (asked f k a b) s n X
   zeros_answer = Longer.outcome_zeros k a b n m X
 
--- A written bit that is not zero can change R: at k = 2 and b = 3, where t has 7 fraction bits, X = 64 with 6 of them has another R than 129 with 7.
+-- A written bit that is not zero can change R: at k = 2 and b = 3, where t has 7 fraction bits, X = 64 with 6 of them
+-- has another R than 129 with 7.
 pub written_bit_counts : (reciprocal 2 2 3 6 64 ≡ 32) × (reciprocal 2 2 3 (6 + 1) (64 * 2 ^ 1 + 1) ≡ 31)
 written_bit_counts = Longer.of_64_and_129
 
@@ -135,7 +165,8 @@ module _ (k a b n X : ℕ) where
   pub reciprocal_of_greatest : 1 ≤ b → 2 * k + b ≤ n → X + 1 ≡ 2 ^ (n + 1) → reciprocal k a b n X ≡ 2 ^ (2 * k)
   reciprocal_of_greatest = Reciprocals.reciprocal_of_greatest k a b n X
 
--- The difference of two neighbouring nodes is below 2^(k+a+1), and f below 2^(k+b) (document 002, Lemma 1), at every node and at every t,
+-- The difference of two neighbouring nodes is below 2^(k+a+1), at every node, and f below 2^(k+b), at every t (Das
+-- Sarma and Matula, Lemma 1),
 pub node_difference : (k a j : ℕ) → node k a j - node k a (j + 1) < 2 ^ (k + (a + 1))
 node_difference = Sizes.step_small
 
@@ -169,7 +200,8 @@ module _ (k a b t : ℕ) where
     pub product_sum_fits : cut_product_sum k a b t < 2 ^ 64
     product_sum_fits = Sizes.sum_fits k a b t p g
 
--- Nor does what is divided to give a node overflow, nor the product by which a word is judged: what the word stands for, times its divisor.
+-- Nor does what is divided to give a node overflow, nor the product by which a word is judged: what the word stands
+-- for, times its divisor.
 module _ (F : Format) (o : IsOffered F) where
   pub numerator_fits : 2 ^ (3 * precision_of F + (table_bits F + 1)) < 2 ^ 63
   numerator_fits = Sizes.numerator_small F o
