@@ -1,4 +1,5 @@
-"""Tests of the Rust crate in rust/: its own tests and documentation, its four examples against reference.py, and what its files owe."""
+"""Tests of the Rust crate in rust/: its own tests and documentation, its four examples against reference.py, and what
+its files owe."""
 import functools
 import itertools
 import os
@@ -10,16 +11,19 @@ import tempfile
 
 import reference
 from archives import archive
-from examples import commands_print, full_rom, lines_of, long_roms, proof, sizes, without_end
+from examples import (
+    PLAIN, TABLES, blocks, commands_print, full_rom, line_without_end, lines_of, long_roms, no_room, options, proof,
+    read_to_an_error, sizes, too_short, without_end)
 
 ROOT = pathlib.Path(__file__).resolve().parent.parent
 RUST = ROOT / "rust"
 BUILT = ROOT / "target" / "cargo"
+PAGE = RUST / "README.md"
 DECLARATIONS = RUST / "sys" / "src" / "lib.rs"  # the one file with unsafe code
 
 
 def run(words, cwd=ROOT, stdin=b"", **more):
-    return subprocess.run(words, cwd=cwd, input=stdin, stdout=subprocess.PIPE, stderr=subprocess.PIPE, timeout=600, **more)
+    return subprocess.run(words, cwd=cwd, input=stdin, capture_output=True, timeout=600, **more)
 
 
 def end(done):
@@ -30,7 +34,8 @@ def end(done):
 def variables():
     """Those that a command of cargo is given: every warning is an error."""
     given = {name: value for name, value in os.environ.items() if name != "YILDEGGA_LIB_DIR"}
-    return given | {"CARGO_TARGET_DIR": str(BUILT), "CARGO_TERM_COLOR": "never", "RUSTFLAGS": "-D warnings", "RUSTDOCFLAGS": "-D warnings"}
+    return given | {"CARGO_TARGET_DIR": str(BUILT), "CARGO_TERM_COLOR": "never", "RUSTFLAGS": "-D warnings",
+                    "RUSTDOCFLAGS": "-D warnings"}
 
 
 def cargo(*words, **more):
@@ -60,12 +65,14 @@ def documentation_runs():
         for at, line in enumerate(lines):
             if re.match(r"\s*pub (const )?fn ", line):
                 functions += 1
-                start = next(up for up in range(at - 1, -1, -1) if not re.match(r"\s*(///|#\[)", lines[up]))
+                said = re.compile(r"\s*(///|#\[)")
+                start = next(up for up in range(at - 1, -1, -1) if not said.match(lines[up]))
                 if not any(re.match(r"\s*/// ```", above) for above in lines[start:at]):
                     return f"no example: {path.name}, {line.strip()}"
     done = cargo("test", "--doc")
     ran = re.findall(r"^test result: ok\. (\d+) passed", done.stdout.decode(), re.M)
-    return end(done) or (None if sum(map(int, ran)) >= functions > 0 else f"{ran} examples for {functions} functions")
+    enough = sum(map(int, ran)) >= functions > 0
+    return end(done) or (None if enough else f"{ran} examples for {functions} functions")
 
 
 def no_warning():
@@ -82,7 +89,8 @@ def sources():
 def unsafe_in_one_file():
     """The word stands in the declarations alone, and every other file that a compilation begins with forbids it."""
     bad = [str(path) for path in sources() if path != DECLARATIONS and re.search(r"\bunsafe\b", path.read_text())]
-    roots = [RUST / "src" / "lib.rs", RUST / "sys" / "build.rs", *(RUST / "tests").glob("*.rs"), *(RUST / "examples").glob("*.rs")]
+    roots = [RUST / "src" / "lib.rs", RUST / "sys" / "build.rs", *(RUST / "tests").glob("*.rs"),
+             *(RUST / "examples").glob("*.rs")]
     bad += [f"{path} does not forbid it" for path in roots if "\n#![forbid(unsafe_code)]\n" not in path.read_text()]
     if not re.search(r"\bunsafe\b", DECLARATIONS.read_text()):
         bad.append("the declarations have none")
@@ -97,8 +105,8 @@ def nothing_fetched():
 
 
 def declared():
-    """Each declaration is an exported function of crates/yildegga with its parameters, a slice as pointer and length, and each exported
-    function is declared; the structs have the fields of those that it is asked and answers by."""
+    """Each declaration is an exported function of crates/yildegga with its parameters, a slice as pointer and length,
+    and each exported function is declared; the structs have the fields of those that it is asked and answers by."""
     exported, answers, formats, units = ((ROOT / "crates" / name / "src" / "lib.rt").read_text()
                                         for name in ("yildegga", "answers", "format", "units"))
     ours = DECLARATIONS.read_text()
@@ -113,7 +121,8 @@ def declared():
             return f"{unit} is not a u64"
     if structs(ours)["TableUnits"] != ["count: u64"]:
         return f"table units are {structs(ours)['TableUnits']}"
-    same = {"Done": "Answer", "NodeRead": "Answer", "ReciprocalGiven": "Answer", "Part": "Part", "FormatNumbers": "Format"}
+    same = {"Done": "Answer", "NodeRead": "Answer", "ReciprocalGiven": "Answer", "Part": "Part",
+            "FormatNumbers": "Format"}
     for name, our in same.items():
         if [re.sub(r"TableUnits|Ulps", "u64", field) for field in theirs[name]] != structs(ours)[our]:
             return f"{name} has {theirs[name]}, {our} has {structs(ours)[our]}"
@@ -124,11 +133,13 @@ def declared():
     # `rt fmt` gives each parameter a line where one line has no room for all.
     exported = re.sub(r"\(\n([^()]*),\n\)", lambda found: f"({' '.join(found[1].split())})", exported)
     slices = exported.replace("&mut [u8]", "*mut u8, length: usize").replace("&[u8]", "*const u8, length: usize")
-    there = functions(slices.replace(": FormatNumbers", ": Format"), r'#\[unsafe\(no_mangle\)\]\s*pub extern "C" fn (\w+)\((.*)\) -> (\w+)')
+    there = functions(slices.replace(": FormatNumbers", ": Format"),
+                      r'#\[unsafe\(no_mangle\)\]\s*pub extern "C" fn (\w+)\((.*)\) -> (\w+)')
     here = functions(ours, r"\n    fn (\w+)\((.*)\) -> (\w+);")
     if not there:
         return "no exported function was found"
-    return None if here == there else f"declared alone: {sorted(here - there)}; exported alone: {sorted(there - here)}"
+    alone = f"declared alone: {sorted(here - there)}; exported alone: {sorted(there - here)}"
+    return None if here == there else alone
 
 
 # ---- what the compiler refuses
@@ -144,20 +155,48 @@ REFUSED = {
         let shown = part.len();
         image[0] = 0;
         Ok(shown + (c.0 + r.0) as usize)"""),
+    "forms and refusals with an arm for others": (None, """
+        let words = match Format::plain(2).form() { Form::Plain => 4, Form::Full => 5, _ => 0 };
+        Ok(match check(Format::plain(2), image).map_err(|refused| refused.refusal()) {
+            Err(Refusal::Precision | Refusal::ShortBuffer) => 0,
+            Err(other) if other == Refusal::WrongWord || other != Refusal::TailNotZero => 1,
+            _ => words,
+        })"""),
+    "a match over forms with no arm for others": (
+        "E0004", "Ok(match Format::plain(2).form() { Form::Plain => 4, Form::Full => image.len() })"),
+    "a match over refusals with no arm for others": (
+        "E0004", "use Refusal::*;\nlet Err(refused) = check(Format::plain(2), image) else { return Ok(0) };\n"
+                 "Ok(match refused.refusal() { Precision | GuardBits | ShortBuffer | NodeNumber => 1,\n"
+                 "FractionBits | NotNormalised | WrongWord | TailNotZero => 2 })"),
+    "refusals compared by an order": (
+        "E0369", "Ok((Refusal::GuardBits < Refusal::ShortBuffer) as usize + image.len())"),
+    "refusals sorted": ("E0277", "let mut refusals = [Refusal::GuardBits, Refusal::ShortBuffer];\nrefusals.sort();\n"
+                                 "Ok(refusals.len() + image.len())"),
     "table units as ulps": ("E0308", "let value: Ulps = node(Format::plain(2), image, 1)?;\nOk(value.0 as usize)"),
-    "ulps as table units": ("E0308", "let value: TableUnits = reciprocal(Format::plain(2), image, 7, 135)?;\nOk(value.0 as usize)"),
+    "ulps as table units": ("E0308", "let value: TableUnits = reciprocal(Format::plain(2), image, 7, 135)?;\n"
+                                     "Ok(value.0 as usize)"),
     "table units compared with ulps": ("E0308", "Ok((TableUnits(1) == Ulps(1)) as usize)"),
     "a precision as a format": ("E0308", "check(2, image)?;\nOk(0)"),
-    "a format made of its parts": ("E0451", "let form = Form::Full;\n"
-                                            "check(Format { precision: 2, form, table_guard_bits: 2, input_guard_bits: 3 }, image)?;\nOk(0)"),
+    "a format made of its parts": (
+        "E0451", "let (precision, form) = (2, Form::Full);\n"
+                 "check(Format { precision, form, table_guard_bits: 2, input_guard_bits: 3 }, image)?;\nOk(0)"),
     "table guard bits alone": ("E0061", "check(Format::plain(2).with_guard_bits(2), image)?;\nOk(0)"),
-    "an image changed while a table is bound to it": ("E0506", "let table = BoundTable::new(Format::plain(2), image);\nimage[0] = 0;\n"
-                                                             "table.node(0)?;\nOk(0)"),
+    "an image changed while a table is bound to it": (
+        "E0506", "let table = BoundTable::new(Format::plain(2), image);\nimage[0] = 0;\ntable.node(0)?;\nOk(0)"),
     "an image built while a word of it is held": ("E0502", "let part = word_bytes(Format::full(2), image, 1);\n"
                                                          "build(Format::full(2), image)?;\nOk(part.len())"),
-    "a word kept longer than its image": ("E0597", "let part = { let own = image.to_vec(); word_bytes(Format::plain(2), &own, 1) };\n"
-                                                 "Ok(part.len())"),
+    "a word kept longer than its image": (
+        "E0597", "let part = { let own = image.to_vec(); word_bytes(Format::plain(2), &own, 1) };\nOk(part.len())"),
 }
+
+
+def rustc(folder, text, *words):
+    """What rustc does with a program that uses the crate, as it is built for debugging."""
+    path = pathlib.Path(folder) / "trial.rs"
+    path.write_text(text)
+    debug = BUILT / "debug"
+    return run(["rustc", "--edition", "2021", *words, "--out-dir", folder, path,
+                "--extern", f"yildegga={debug}/libyildegga.rlib", "-L", f"dependency={debug}/deps"], cwd=RUST)
 
 
 def compiled(name):
@@ -167,14 +206,25 @@ def compiled(name):
     if why:
         return why
     with tempfile.TemporaryDirectory() as folder:
-        (pathlib.Path(folder) / "trial.rs").write_text(HEAD + body + "\n}\n")
-        done = run(["rustc", "--edition", "2021", "--crate-type", "lib", "--emit", "metadata", "--out-dir", folder, f"{folder}/trial.rs",
-                    "--extern", f"yildegga={BUILT}/debug/libyildegga.rlib", "-L", f"dependency={BUILT}/debug/deps"], cwd=RUST)
+        done = rustc(folder, HEAD + body + "\n}\n", "--crate-type", "lib", "--emit", "metadata")
     said = done.stderr.decode()
     found = re.findall(r"^error(?:\[(\w+)\])?:", said, re.M)
     if code is None:
         return end(done)
-    return None if done.returncode != 0 and code in found and set(found) <= {code, ""} else f"the errors are {found}: {said[:400]}"
+    refused = done.returncode != 0 and code in found and set(found) <= {code, ""}
+    return None if refused else f"the errors are {found}: {said[:400]}"
+
+
+def printed(text):
+    """What a program that uses the crate prints."""
+    why = end(cargo("build"))
+    assert why is None, why
+    with tempfile.TemporaryDirectory() as folder:
+        why = end(rustc(folder, text, "-L", f"native={archive().parent}"))
+        assert why is None, why
+        done = run([pathlib.Path(folder) / "trial"])
+    assert done.returncode == 0, end(done)
+    return done.stdout.decode()
 
 
 # ---- where the archive is found
@@ -195,21 +245,24 @@ struct answer yildegga_build(struct format format, uint8_t *image, size_t length
 
 
 def archive_found():
-    """The archive is taken from YILDEGGA_LIB_DIR, a new one is linked anew, and where there is none the message has the command."""
+    """The archive is taken from YILDEGGA_LIB_DIR, a new one is linked anew, and where there is none the message has the
+    command."""
     with tempfile.TemporaryDirectory() as name:
         folder = pathlib.Path(name)
         lib = folder / "lib"
         lib.mkdir()
 
         def build():
-            return cargo("build", "--example", "order_image", YILDEGGA_LIB_DIR=str(lib), CARGO_TARGET_DIR=str(folder / "cargo"))
+            there = {"YILDEGGA_LIB_DIR": str(lib), "CARGO_TARGET_DIR": str(folder / "cargo")}
+            return cargo("build", "--example", "order_image", **there)
 
         def order(*more):
             run([folder / "cargo" / "debug" / "examples" / "order_image", "2", folder / "image", *more])
             return (folder / "image").read_bytes()
 
         absent = build()
-        if absent.returncode == 0 or b"make it by `make`" not in absent.stderr or b"YILDEGGA_LIB_DIR" not in absent.stderr:
+        said = b"make it by `make`" in absent.stderr and b"YILDEGGA_LIB_DIR" in absent.stderr
+        if absent.returncode == 0 or not said:
             return f"with no archive: status {absent.returncode}, {absent.stderr[-400:]!r}"
         (lib / "libyildegga.a").write_bytes(archive().read_bytes())
         why = end(build())
@@ -219,8 +272,8 @@ def archive_found():
         why = end(run(["gcc", "-O1", "-fPIC", "-c", "other.c", "-o", "other.o"], cwd=folder))
         (lib / "libyildegga.a").unlink()
         why = why or end(run(["ar", "rc", lib / "libyildegga.a", "other.o"], cwd=folder)) or end(build())
-        ordered_there = why or [order(), order("4", "5")]
-        return why or (None if ordered_there == [b"\2\0\2", b"\2\0\4\5"] else f"with another archive ordered {ordered_there}")
+        there = why or [order("--size", "4"), order("--size", "4", "--full", "-a", "3", "-b", "5")]
+        return why or (None if there == [b"\2\0\2\3", b"\2\1\3\5"] else f"with another archive ordered {there}")
 
 
 # ---- the examples
@@ -241,49 +294,67 @@ def differs(words, done, status, output):
     """None where an example ended with this status, printed this and said nothing else."""
     if (done.returncode, done.stdout.decode(), done.stderr) == (status, output, b""):
         return None
-    return f"{words}: status {done.returncode}, printed {done.stdout[:200]!r}, said {done.stderr[:200]!r}; expected {status}, {output[:200]!r}"
+    return (f"{words}: status {done.returncode}, printed {done.stdout[:200]!r}, said {done.stderr[:200]!r}; "
+            f"expected {status}, {output[:200]!r}")
 
 
 def ordered():
-    """The image of each precision, in a file of just its bytes, and full ROMs of it; that of precision 2 is 02 75 8A."""
+    """The image of each precision, in a file of just its bytes, and full ROMs of it; that of precision 2 is 02 75 8A.
+    A ROM for which there is no memory is told."""
     with tempfile.TemporaryDirectory() as folder:
         for k in range(1, 13):
             file = pathlib.Path(folder) / f"image {k}"
             file.write_bytes(bytes(20000))  # what stood there goes
-            why = differs(["order_image", k], example(["order_image", str(k), file]), 0, f"{k} {reference.LENGTHS[k - 1]}\n")
+            words = ["order_image", str(k), file]
+            why = differs(words, example(words), 0, f"{k} {reference.LENGTHS[k - 1]}\n")
             if why or file.read_bytes() != reference.image(k):
                 return why or f"precision {k}: {file.read_bytes()[:40].hex(' ')}"
             rom = pathlib.Path(folder) / "rom"
             for size in sizes(k):
-                why = differs(["order_image", k, size], example(["order_image", str(k), rom, str(size)]), 0, f"{k} {size}\n")
+                words = ["order_image", str(k), rom, "--size", str(size)]
+                why = differs(words, example(words), 0, f"{k} {size}\n")
                 if why or rom.read_bytes() != full_rom(k, size):
                     return why or f"precision {k}, {size} bytes: {rom.read_bytes()[:40].hex(' ')}"
-        return None if (pathlib.Path(folder) / "image 2").read_bytes() == bytes.fromhex("02758A") else "the image of precision 2"
+        if (pathlib.Path(folder) / "image 2").read_bytes() != bytes.fromhex("02758A"):
+            return "the image of precision 2"
+        return no_room(examples() / "order_image", pathlib.Path(folder))
 
 
-def ordered_with_guard_bits():
-    """The same with each number of table guard bits, which decides the image, and of input guard bits, which does not; that of precision 1
-    with three table guard bits is 02 C0."""
+def ordered_and_read():
+    """An image or a ROM of any form and guard bits goes from `order_image` through `proofread` to `reciprocals`, by the
+    same options. The plain image of precision 1 with three table guard bits is 02 C0, and a filling bit of it is
+    told."""
     with tempfile.TemporaryDirectory() as folder:
         file = pathlib.Path(folder) / "image"
-        for k, a, b in itertools.product(range(1, 13), (2, 3, 4), (3, 4, 5)):
-            image = reference.image(k, reference.PLAIN, a)
+        for k, (form, a, b) in itertools.product(range(1, 13), TABLES):
+            image, asked = reference.image(k, form, a), options(form, a, b)
             for size in (None, len(image), len(image) + 1, 15364):
-                words = [str(k), file, *([] if size is None else [str(size)]), str(a), str(b)]
+                words = ["order_image", *asked, str(k), file, *([] if size is None else ["--size", str(size)])]
                 expected = image if size is None else image.ljust(size, b"\0")
-                why = differs(["order_image", *words], example(["order_image", *words]), 0, f"{k} {len(expected)}\n")
+                why = differs(words, example(words), 0, f"{k} {len(expected)}\n")
                 if why or file.read_bytes() != expected:
-                    return why or f"precision {k}, {a} and {b} guard bits, size {size}: {file.read_bytes()[:40].hex(' ')}"
-        example(["order_image", "1", file, "3", "3"])
-        return None if file.read_bytes() == bytes.fromhex("02C0") else f"precision 1, 3 table guard bits: {file.read_bytes().hex(' ')}"
+                    return why or f"precision {k}, {asked}, size {size}: {file.read_bytes()[:40].hex(' ')}"
+            n = 2 * k + b
+            operands = [2 ** n, 2 ** n + 1, 2 ** n + 2 ** (n - 1) // 3, 2 ** (n + 1) - 1, 2 ** (n + 1)]
+            taken = ["reciprocals", str(k), *asked, str(n), *map(str, operands)]
+            why = (differs(asked, example(["proofread", str(k), file, *asked]), 0, "right\n")
+                   or differs(taken, example(taken), *lines_of(k, n, operands, form, a, b)))
+            if why:
+                return why
+        example(["order_image", "-a", "3", "1", file])
+        if file.read_bytes() != bytes.fromhex("02C0"):
+            return f"precision 1, 3 table guard bits: {file.read_bytes().hex(' ')}"
+        file.write_bytes(bytes.fromhex("02C1"))
+        worn = "wrong filling bits at byte 1: C1\nshould be C0: the image is bytes 0 to 1\n"
+        return differs(["proofread", "02 C1"], example(["proofread", "-a", "3", "1", file]), 1, worn)
 
 
 def bench_words():
     """Each word of a full image is the node, that of the last node too, with whatever guard bits."""
     for k in range(1, 13):
-        for a, b in (None, None), *itertools.product((2, 3, 4), (3, 4, 5)):
-            nodes = "".join(f"{j} {reference.node(k, j, a or 2)}\n" for j in range(2 ** k + 1))
-            words = ["bench_words", str(k), *([str(a), str(b)] if a else [])]
+        for form, a, b in (None, 2, 3), *TABLES:
+            nodes = "".join(f"{j} {reference.node(k, j, a)}\n" for j in range(2 ** k + 1))
+            words = ["bench_words", str(k), *([] if form is None else options(form, a, b))]
             why = differs(words, example(words), 0, nodes)
             if why:
                 return why
@@ -291,26 +362,33 @@ def bench_words():
 
 
 def proofread():
-    """Files of each precision, right, with tails, and with some bits damaged; those that document 01 and Q-2 name among them."""
+    """Files of each precision, right, with tails, and with some bits damaged, the set examples among them; and in each
+    form, with all guard bits."""
     rng = random.Random(1)
-    files = [(2, bytes.fromhex(text)) for text in ("02758A", "02758B", "000000", "06758A", "02758A00", "02758A0001", "02758B01")]
-    for k in range(1, 13):
-        right = reference.image(k)
-        files += [(k, right), (k, right + b"\xff"), (k, right + bytes(20000))]
+    set_examples = ("02758A", "02758B", "000000", "06758A", "02758A00", "02758A0001", "02758B01")
+    files = [(2, bytes.fromhex(text), PLAIN, 2, []) for text in set_examples]
+    for k, (form, a, b) in itertools.product(range(1, 13), [(None, 2, 3), *TABLES]):
+        right, asked = reference.image(k, form or PLAIN, a), [] if form is None else options(form, a, b)
+        made = [right, right + b"\xff", right + bytes(20000), bytes(len(right))]
         for count in (1, 1, 1, 2, 5):
             data = bytearray(right + rng.choice([b"", b"\xff"]))
             for bit in rng.sample(range(8 * len(right)), count):
                 data[bit // 8] ^= 0x80 >> bit % 8
-            files.append((k, bytes(data)))
+            made.append(bytes(data))
+        made.append(right[:-1] + bytes([right[-1] ^ 1]))  # a filling bit, where there are any
+        files += [(k, data, form or PLAIN, a, asked) for data in made]
+    met = set()
     with tempfile.TemporaryDirectory() as folder:
         file = pathlib.Path(folder) / "mask"
-        for k, data in files:
+        for k, data, form, a, asked in files:
             file.write_bytes(data)
-            why = differs(["proofread", k, data[:20].hex(" ")], example(["proofread", str(k), file]), *proof(k, data))
+            status, lines = proof(k, data, form, a)
+            met.add(lines.split(" at ")[0])
+            done = example(["proofread", str(k), *asked, file])
+            why = differs(["proofread", k, *asked, data[:20].hex(" ")], done, status, lines)
             if why or file.read_bytes() != data:
                 return why or f"precision {k}: the file was changed"
-    met = {proof(k, data)[1][:11] for k, data in files}
-    return None if met == {"right\n", "wrong word ", "wrong tail "} else f"only {met} were met"
+    return None if met == {"right\n", "wrong word", "wrong tail", "wrong filling bits"} else f"only {met} were met"
 
 
 def proofread_long():
@@ -328,20 +406,25 @@ def proofread_long():
 
 
 def reciprocals():
-    """Operands as arguments and as lines of standard input, at each precision, short ones and some out of their limits among them."""
+    """Operands as arguments and as lines of standard input, at each precision, short ones and some out of their limits
+    among them."""
     rng = random.Random(2)
-    lists = [(2, 7, [128, 129, 135, 160, 255]), (2, 63, [2 ** 63 + 1, 2 ** 64 - 1]), (1, 5, [32, 63]), (2, 7, [127, 128, 256]),
-             (2, 6, [63, 64, 127, 128]), (2, 0, [0, 1]), (2, 64, [2 ** 63]), (2, 2 ** 32 - 1, [0]),
-             *((2, n, range(2 ** n - 1, 2 ** (n + 1) + 1)) for n in range(1, 8))]  # all up to 7 bits, and the next to them
+    lists = [(2, 7, [128, 129, 135, 160, 255]), (2, 63, [2 ** 63 + 1, 2 ** 64 - 1]), (1, 5, [32, 63]),
+             (2, 7, [127, 128, 256]), (2, 6, [63, 64, 127, 128]), (2, 0, [0, 1]), (2, 64, [2 ** 63]),
+             (2, 2 ** 32 - 1, [0]),
+             *((2, n, range(2 ** n - 1, 2 ** (n + 1) + 1)) for n in range(1, 8))]  # all up to 7 bits, and their next
     for k in range(1, 13):
         for n in (1, rng.randint(1, 2 * k + 2), 2 * k + 2, 2 * k + 3, 2 * k + 4, 52, 63):
-            lists.append((k, n, [2 ** n, 2 ** (n + 1) - 1, *(rng.randrange(2 ** n, 2 ** (n + 1)) for _ in range(40))]))
+            operands = (rng.randrange(2 ** n, 2 ** (n + 1)) for _ in range(40))
+            lists.append((k, n, [2 ** n, 2 ** (n + 1) - 1, *operands]))
         lists.append((k, rng.randrange(70), [rng.getrandbits(rng.randint(1, 64)) for _ in range(20)]))
+    asked = [(*each, PLAIN, 2, 3, []) for each in lists]
+    asked += [(*each, *table, options(*table)) for each, table in zip(lists, itertools.cycle(TABLES))]
     seen = set()
-    for k, n, operands in lists:
-        status, output = lines_of(k, n, operands)
+    for k, n, operands, *table, more in asked:
+        status, output = lines_of(k, n, operands, *table)
         seen |= set(re.findall(r"refused (\d)", output)) | {status}
-        words = ["reciprocals", str(k), str(n)]
+        words = ["reciprocals", str(k), str(n), *more]
         lines = "".join(f"{x}\n" for x in operands).encode()
         why = (differs(words, example([*words, *map(str, operands)]), status, output)
                or differs(words, example(words, stdin=lines), status, output)
@@ -351,48 +434,78 @@ def reciprocals():
     return None if seen == {0, 1, "4", "5"} else f"only {seen} were met"
 
 
-# Mistakes: the arguments, the standard input, the exit status, and what the message must hold. FOLDER has the file `image`, the image of
-# precision 2, the file `short`, which lacks its last byte, and the empty file `empty`.
-USAGE = "usage: "
+def lines_bounded():
+    """A line of 1000 bytes is an operand and one of 1001 is none, with a line feed and without one; the operands before
+    it are answered. A line without end takes no memory, and an argument may have any length."""
+    for zeros, text in itertools.product((997, 998), (b"\n", b"", b"\n128\n")):
+        done = example(["reciprocals", "2", "7"], stdin=b"256\n" + b"0" * zeros + b"135" + text)
+        after = "128 32\n" if text == b"\n128\n" else ""
+        expected = ((1, f"256 refused 5 0\n135 30\n{after}", "") if zeros == 997 else
+                    (2, "256 refused 5 0\n", "reciprocals: operand 2 is a line of more than 1000 bytes\n"))
+        if (done.returncode, done.stdout.decode(), done.stderr.decode()) != expected:
+            return f"{zeros} zeros, then {text!r}: {done}"
+    words = ["reciprocals", "2", "7", "0" * 5000 + "135"]
+    return differs(words[:3], example(words), 0, "135 30\n") or line_without_end(examples() / "reciprocals")
+
+
+# Mistakes: the arguments, the standard input, the exit status, and what the message must hold. FOLDER has the file
+# `image`, the image of precision 2, the file `short`, which lacks its last byte, and the empty file `empty`.
 RANGE = "refusal 1: the precision is below 1 or above 12"
 GUARD_BITS = "refusal 18: the table guard bits are not 2 to 4, or the input guard bits not 3 to 5"
 SHORT = "refusal 2: the buffer is shorter than the image"
-NO_GUARD_BITS = [("1", "3"), ("5", "3"), ("2", "2"), ("2", "6"), ("0", "0"), ("4294967295", "3"), ("2", "4294967295")]
+USAGES = {"bench_words": "[--full] [-a A] [-b B] K", "order_image": "[--full] [-a A] [-b B] [--size SIZE] K FILE",
+          "proofread": "[--full] [-a A] [-b B] K FILE", "reciprocals": "[--full] [-a A] [-b B] K N [X...]"}
+RESTS = {"bench_words": [], "order_image": ["FOLDER/new"], "proofread": ["FOLDER/image"], "reciprocals": ["7", "128"]}
+NO_NUMBER = ["", "two", "+2", "2.0", " 2", "0x2", "4294967296", "18446744073709551616", b"\xff"]
+NO_OPTION = ["-", "--", "-1", "-k", "-A", "-a2", "-a=2", "--a", "--fully", "--FULL", "--full=1", "-full", "--siz",
+             "--help"]
+NO_GUARD_BITS = [["-a", "1"], ["-a", "5"], ["-b", "2"], ["-b", "6"], ["-a", "0", "-b", "0"], ["-a", "4294967295"],
+                 ["-b", "4294967295"]]
+K, SIZE, OPERAND = "K is not a number below 2^32", "--size is not a number below 2^32", "is not a number below 2^64"
+
+
+def misused():
+    """Calls that are none: an option that there is not, that stands twice or lacks its number, a number that is none or
+    has more than 32 bits, too few words and too many."""
+    for name, rest in RESTS.items():
+        def usage(*words, why="", name=name):
+            return name, words, b"128\n", 2, f"{name}: {why}{'; ' if why else ''}usage: {name} {USAGES[name]}\n"
+
+        yield usage()
+        yield usage("-a", "3")
+        if rest:
+            yield usage("2")
+        if name != "reciprocals":
+            yield usage("2", *rest, "2")
+        numbered = ["-a", "-b", *(["--size"] if name == "order_image" else [])]
+        for text in NO_OPTION + ([] if name == "order_image" else ["--size"]):
+            yield usage(text, "2", *rest, why=f"{text} is no option")
+            yield usage("2", *rest, text, why=f"{text} is no option")
+        for option in numbered:
+            yield usage("2", *rest, option, why=f"{option} has no number behind it")
+            yield usage(option, "2", "2", *rest, option, "2", why=f"{option} stands twice")
+            for text in [*NO_NUMBER, "-1", "--full", "-a"]:
+                yield usage(option, text, "2", *rest, why=f"{option} is not a number below 2^32")
+        yield usage("--full", "2", *rest, "--full", why="--full stands twice")
+        for text in NO_NUMBER:
+            yield usage(text, *rest, why=K)
+        if name == "reciprocals":
+            for text in NO_NUMBER:
+                yield usage("2", text, "128", why="N is not a number below 2^32")
+
+
 MISTAKES = [
-    *((name, words, b"", 2, USAGE) for name, more in (("order_image", ["3", "2", "3", "3"]), ("proofread", ["3"]))
-      for words in ([], ["2"], ["2", "FOLDER/image", *more])),
-    *(("reciprocals", words, b"", 2, USAGE) for words in ([], ["2"])),
-    *(("bench_words", words, b"", 2, USAGE) for words in ([], ["2", "2"], ["2", "2", "3", "3"])),
-    *(("bench_words", ["2", a, "x"], b"", 2, "A is not a number") for a in ("", "two", "-1", "+2", " 2", "4294967296", b"\xff")),
-    *(("bench_words", ["2", "2", b], b"", 2, "B is not a number") for b in ("", "two", "-1", "+3", " 3", "4294967296", b"\xff")),
-    *(("order_image", ["2", "FOLDER/new", *size, a, "x"], b"", 2, "A is not a number")
-      for size in ([], ["4"]) for a in ("", "two", "-1", "+2", " 2", "4294967296", b"\xff")),
-    *(("order_image", ["2", "FOLDER/new", *size, "2", b], b"", 2, "B is not a number")
-      for size in ([], ["4"]) for b in ("", "two", "-1", "+3", " 3", "4294967296", b"\xff")),
-    ("order_image", ["2", "FOLDER/new", "four", "a", "b"], b"", 2, "SIZE is not a number below 2^64"),
-    ("order_image", ["two", "FOLDER/new", "four", "a", "b"], b"", 2, "K is not a number"),
-    ("bench_words", ["two", "a", "b"], b"", 2, "K is not a number"),
-    *(("order_image", ["2", "FOLDER/new", *size, a, b], b"", 1, GUARD_BITS)
-      for size in ([], ["0"], ["4"]) for a, b in NO_GUARD_BITS),
-    *(("bench_words", ["2", a, b], b"", 1, GUARD_BITS) for a, b in NO_GUARD_BITS),
-    *(("order_image", [k, "FOLDER/new", "5", "6"], b"", 1, RANGE) for k in ("0", "13")),
-    *(("bench_words", [k, "5", "6"], b"", 1, RANGE) for k in ("0", "13")),
-    *(("order_image", [k, "FOLDER/new", size, "3", "3"], b"", 1, SHORT) for k, size in (("1", "1"), ("2", "3"), ("12", "13823"))),
-    *((name, [k, "FOLDER/new"], b"", 2, "K is not a number") for name in ("order_image", "proofread")
-      for k in ("", "two", "-1", "+2", "2.0", " 2", "0x2", "4294967296", b"\xff")),
-    *(("bench_words", [k], b"", 2, "K is not a number") for k in ("", "two", "-1", "+2", " 2", "4294967296", b"\xff")),
-    *(("reciprocals", [k, "7", "128"], b"", 2, "K is not a number") for k in ("", "two", "-1", "+2", "4294967296", b"\xff")),
-    *(("reciprocals", ["2", n, "128"], b"", 2, "N is not a number") for n in ("", "seven", "-1", "+7", "4294967296", b"\xff")),
-    *(("order_image", [k, "FOLDER/new"], b"", 1, RANGE) for k in ("0", "13", "4294967295")),
-    *(("proofread", [k, "FOLDER/image"], b"", 1, RANGE) for k in ("0", "13", "4294967295")),
-    *(("reciprocals", [k, "7", "128"], b"", 1, RANGE) for k in ("0", "13", "4294967295")),
-    *(("bench_words", [k], b"", 1, RANGE) for k in ("0", "13", "4294967295")),
-    *(("order_image", ["2", "FOLDER/new", size], b"", 2, "SIZE is not a number below 2^64")
-      for size in ("", "four", "-4", "+4", "4.0", " 4", "0x4", "18446744073709551616", b"\xff")),
-    *(("order_image", [k, "FOLDER/new", size], b"", 1, SHORT) for k, size in (("1", "0"), ("2", "0"), ("2", "2"), ("2", "0002"), ("12", "13311"))),
-    *(("order_image", [k, "FOLDER/new", size], b"", 1, RANGE) for k, size in (("0", "0"), ("13", "0"), ("13", "65536"))),
-    *(("order_image", ["2", "FOLDER/new", str(size)], b"", 2, "out of memory") for size in (2 ** 63 - 1, 2 ** 63, 2 ** 64 - 1)),
-    ("order_image", ["2", "/dev/full", "65536"], b"", 2, "No space left"),
+    *misused(),
+    *((name, [*asked, k, *rest], b"128\n", 1, RANGE) for name, rest in RESTS.items() for k in ("0", "13", "4294967295")
+      for asked in ([], ["--full"], ["-a", "9"])),
+    *((name, [k, *rest, *asked, *full], b"128\n", 1, GUARD_BITS) for name, rest in RESTS.items()
+      for k in ("1", "2", "12") for asked in NO_GUARD_BITS for full in ([], ["--full"])),
+    *(("order_image", ["2", "FOLDER/new", "--size", size, "-b", "6"], b"", 1, GUARD_BITS) for size in ("0", "4")),
+    *(("order_image", [k, "FOLDER/new", "--size", *size], b"", 1, SHORT) for k, *size in (
+        ("1", "0"), ("2", "0"), ("2", "2"), ("2", "0002"), ("12", "13311"), ("1", "1", "-a", "3"),
+        ("2", "3", "-a", "3"), ("12", "13823", "-a", "3"), ("2", "4", "--full"))),
+    *(("order_image", [k, "FOLDER/new", "--size", size], b"", 1, RANGE) for k, size in (("0", "0"), ("13", "65536"))),
+    ("order_image", ["2", "/dev/full", "--size", "65536"], b"", 2, "No space left"),
     ("order_image", ["2", "FOLDER"], b"", 2, "directory"),
     ("order_image", ["2", ""], b"", 2, "No such file"),
     ("order_image", ["2", "FOLDER/none/new"], b"", 2, "No such file"),
@@ -401,13 +514,14 @@ MISTAKES = [
     ("proofread", ["2", "FOLDER"], b"", 2, "directory"),
     ("proofread", ["2", "FOLDER/new"], b"", 2, "No such file"),
     ("proofread", ["2", b"FOLDER/\xff"], b"", 2, "No such file"),
-    ("proofread", ["2", "FOLDER/short"], b"", 1, SHORT),
-    ("proofread", ["2", "FOLDER/empty"], b"", 1, SHORT),
-    ("proofread", ["12", "FOLDER/image"], b"", 1, SHORT),
-    *(("reciprocals", ["2", "7", x], b"", 2, "operand 1 is not a number below 2^64")
-      for x in ("", "x", "-1", "+128", "1.5", "1 2", "18446744073709551616", b"\xff")),
-    *(("reciprocals", ["2", "7"], line, 2, "operand 1 is not a number below 2^64")
-      for line in (b"\n", b"x\n", b"128 \n", b"128\r\n", b"128,129\n", b"128\0\n", b"\xff\n")),
+    ("proofread", ["2", "FOLDER/short"], b"", 1, too_short(2, 3)),
+    ("proofread", ["2", "FOLDER/empty"], b"", 1, too_short(0, 3)),
+    ("proofread", ["12", "FOLDER/image"], b"", 1, too_short(3, 13312)),
+    ("proofread", ["2", "FOLDER/image", "--full", "-a", "4"], b"", 1, too_short(3, 7)),
+    *(("reciprocals", ["2", "7", x], b"", 2, f"operand 1 {OPERAND}")
+      for x in ("", "x", "+128", "1.5", "1 2", "18446744073709551616", b"\xff")),
+    *(("reciprocals", ["2", "7"], line, 2, f"operand 1 {OPERAND}")
+      for line in (b"\n", b"x\n", b"-1\n", b"--full\n", b"128 \n", b"128\r\n", b"128,129\n", b"128\0\n", b"\xff\n")),
 ]
 
 
@@ -422,38 +536,61 @@ def mistakes():
             words = [os.fsencode(word).replace(b"FOLDER", os.fsencode(name)) for word in words]
             done = example([program, *words], stdin=stdin)
             said = done.stderr.decode(errors="replace")
-            if not (done.returncode == status and said.startswith(f"{program}: ") and message in said and said.count("\n") == 1
-                    and done.stdout == b"" and "panicked" not in said):
-                return f"{program} {words} {stdin!r}: status {done.returncode}, printed {done.stdout[:80]!r}, said {said!r}"
+            if not (done.returncode == status and said.startswith(f"{program}: ") and message in said
+                    and said.count("\n") == 1 and done.stdout == b"" and "panicked" not in said):
+                return (f"{program} {words} {stdin!r}: status {done.returncode}, printed {done.stdout[:80]!r}, "
+                        f"said {said!r}, expected {message!r}")
             if {file.name: file.read_bytes() for file in folder.iterdir()} != files:
                 return f"{program} {words}: the folder has {list(folder.iterdir())}"
     return None
 
 
-def output_closed():
-    """Where the output cannot be written, a message and exit status 2, and no panic."""
+def streams_closed():
+    """Where the output cannot be written or the input cannot be read, a message and exit status 2, and no panic. A line
+    that cannot be read to its end is not answered."""
     with tempfile.TemporaryDirectory() as folder:
         file = pathlib.Path(folder) / "image"
         file.write_bytes(reference.image(2))
         worn = pathlib.Path(folder) / "worn"
         worn.write_bytes(reference.image(2) + b"\1")
-        for words in (["order_image", "2", file], ["proofread", "2", file], ["proofread", "2", worn], ["reciprocals", "2", "7", "128"],
-                      ["bench_words", "2"]):
+        for words in (["order_image", "2", file], ["proofread", "2", file], ["proofread", "2", worn],
+                      ["reciprocals", "2", "7", "128"], ["bench_words", "2"]):
+            call = [examples() / words[0], *words[1:]]
             with open("/dev/full", "wb") as full:
-                done = subprocess.run([examples() / words[0], *words[1:]], stdin=subprocess.DEVNULL, stdout=full, stderr=subprocess.PIPE)
+                done = subprocess.run(call, stdin=subprocess.DEVNULL, stdout=full, stderr=subprocess.PIPE)
             reader, writer = os.pipe()
             os.close(reader)  # nobody reads what it prints
-            gone = subprocess.run([examples() / words[0], *words[1:]], stdin=subprocess.DEVNULL, stdout=writer, stderr=subprocess.PIPE)
+            gone = subprocess.run(call, stdin=subprocess.DEVNULL, stdout=writer, stderr=subprocess.PIPE)
             os.close(writer)
             for each in (done, gone):
-                if each.returncode != 2 or not each.stderr.startswith(words[0].encode() + b": ") or b"panicked" in each.stderr:
-                    return f"{words}: status {each.returncode}, said {each.stderr!r}"
-    return None
+                said = each.stderr
+                if each.returncode != 2 or not said.startswith(words[0].encode() + b": ") or b"panicked" in said:
+                    return f"{words}: status {each.returncode}, said {said!r}"
+    found = read_to_an_error([examples() / "reciprocals", "2", "7"])
+    expected = 2, "128 32\n256 refused 5 0\n", "reciprocals: Input/output error (os error 5)\n"
+    return None if found == expected else f"input that cannot be read: {found}"
+
+
+def page_first_call():
+    """The page's first call, copied to a shell as it stands but for the folder, prints what the page says."""
+    archive()
+    commands, expected = blocks(PAGE, "sh")[0], blocks(PAGE, "text")[0]
+    with tempfile.TemporaryDirectory() as folder:
+        commands = commands.replace("/tmp/first-call", f"{folder}/first-call")
+        done = run(["sh", "-ec", commands], env=variables() | {"CARGO_TARGET_DIR": f"{folder}/cargo"})
+    return end(done) or (None if done.stdout.decode().endswith("\n" + expected) else f"printed {done.stdout[-400:]!r}")
+
+
+def page_short():
+    """It has at most 200 lines of at most 120 columns."""
+    lines = PAGE.read_text().splitlines()
+    wide = [number for number, line in enumerate(lines, 1) if len(line) > 120]
+    return f"{len(lines)} lines, lines {wide} above 120 columns" if wide or len(lines) > 200 else None
 
 
 def page_commands():
     examples()
-    return commands_print(RUST / "README.md", RUST, env=variables() | {"CARGO_NET_OFFLINE": "true"})
+    return commands_print(PAGE, RUST, env=variables() | {"CARGO_NET_OFFLINE": "true"})
 
 
 def tests():
@@ -467,11 +604,14 @@ def tests():
         yield f"rust: the compiler {'refuses' if code else 'accepts'} {name}", lambda name=name: compiled(name)
     yield "rust: the archive is found, linked anew where it changed, and asked for where it is absent", archive_found
     yield "rust: order_image writes each image, and full ROMs up to some MiB", ordered
-    yield "rust: order_image writes each image with the guard bits that are ordered", ordered_with_guard_bits
-    yield "rust: proofread names the first wrong word, or the first wrong byte past the image", proofread
+    yield "rust: images of all formats, from order_image through proofread to reciprocals", ordered_and_read
+    yield "rust: proofread names the first wrong word and counts them, or the first wrong byte behind them", proofread
     yield "rust: proofread reads files past the longest image whole", proofread_long
     yield "rust: reciprocals are the reference's", reciprocals
+    yield "rust: reciprocals takes lines of at most 1000 bytes", lines_bounded
     yield "rust: bench_words has the nodes from the words of each full image, with all guard bits", bench_words
     yield f"rust: {len(MISTAKES)} mistakes in calling the examples give a message and an exit status", mistakes
-    yield "rust: an example whose output cannot be written says so", output_closed
+    yield "rust: an example whose output cannot be written, or whose input cannot be read, says so", streams_closed
+    yield "rust: the first call of rust/README.md, copied to a shell", page_first_call
+    yield "rust: rust/README.md is short", page_short
     yield "rust: the commands of rust/README.md", page_commands

@@ -1,16 +1,18 @@
-/* Orders a ROM: builds the image of precision K in plain words, with A table guard bits and B input guard bits, or 2 and 3 where they are
- * not given, and with zeros behind it to SIZE bytes, or the image alone where no SIZE is given, writes it to FILE, and prints K and the
- * bytes written. The exit status is 1 where the library turns the call back, and 2 where the arguments, the memory, the file or the
- * output do not allow it.
+/* Orders a ROM: builds the image of precision K, writes it to FILE, and prints K and the bytes written.
  *
- *     order_image K FILE [SIZE] [A B]
- */
+ *     order_image [--full] [-a A] [-b B] [--size SIZE] K FILE
+ *
+ * The words are plain, or full with --full. The table has A table guard bits and B input guard bits, 2 and 3 where they
+ * are not given. With --size, zeros follow the image to the last of SIZE bytes. The exit status is 1 where the library
+ * turns the call back, and 2 where the arguments, the memory, the file or the output do not allow it. */
 #include <errno.h>
 #include <inttypes.h>
 #include <stdio.h>
 #include <stdlib.h>
 #include <string.h>
 #include "caller.h"
+
+static const struct program program = {"order_image", "[--full] [-a A] [-b B] [--size SIZE] K FILE", true, 2, 2};
 
 /* Builds the ROM in the lent bytes, writes them to the file and prints the line. It gives the exit status. */
 static int order(yildegga_format format, const char *name, uint8_t *rom, size_t size)
@@ -35,27 +37,17 @@ static int order(yildegga_format format, const char *name, uint8_t *rom, size_t 
 
 int main(int argc, char **argv)
 {
-    uint32_t k, a = 2, b = 3;
-    uint64_t size = 0;
-    if (argc < 3 || argc > 6)
-        return not_called("order_image", "usage: order_image K FILE [SIZE] [A B]");
-    bool sized = argc == 4 || argc == 6, guarded = argc > 4;
-    if (!read_number_32(argv[1], strlen(argv[1]), &k))
-        return not_called("order_image", "K is not a number from 1 to 12");
-    if (sized && !read_number(argv[3], strlen(argv[3]), SIZE_MAX, &size))
-        return not_called("order_image", "SIZE is not a number below 2^64");
-    if (guarded && !read_number_32(argv[argc - 2], strlen(argv[argc - 2]), &a))
-        return not_called("order_image", "A is not a number from 2 to 4");
-    if (guarded && !read_number_32(argv[argc - 1], strlen(argv[argc - 1]), &b))
-        return not_called("order_image", "B is not a number from 3 to 5");
-    yildegga_format format = YILDEGGA_TABLE(k, YILDEGGA_PLAIN_WORDS, a, b);
-    if (!sized)
-        size = yildegga_image_length(format);
+    struct call call;
+    uint32_t k;
+    if (!read_call(program, argc, argv, &call) || !read_word(program, "K", call.words[0], &k))
+        return NOT_CALLED;
+    yildegga_format format = asked(&call, k);
+    size_t size = call.options[SIZE].given ? call.options[SIZE].number : yildegga_image_length(format);
 
     uint8_t *rom = malloc(size);
     if (!rom && size > 0) /* with no bytes NULL is as good as another pointer: the library turns the call back */
         return not_called("order_image", "out of memory");
-    int status = order(format, argv[2], rom, size);
+    int status = order(format, call.words[1], rom, size);
     free(rom);
     return status;
 }

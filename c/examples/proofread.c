@@ -1,10 +1,14 @@
-/* Reads a mask file back as a full ROM of precision K, an image of plain words with zeros behind it to the file's end, and prints
- * `right`, or its first wrong word with the bytes that hold it and what they should be, or, where every word is right, the first byte
- * past the image that is not zero. The file is read whole, whatever its size. The exit status is 1 where a word or a byte past the image
- * is wrong or the library turns the call back, and 2 where the arguments, the memory, the file or the output do not allow it.
+/* Reads a mask file back as a full ROM of precision K, an image with zeros behind it to the file's end, and prints
+ * `right` or what is wrong.
  *
- *     proofread K FILE
- */
+ *     proofread [--full] [-a A] [-b B] K FILE
+ *
+ * The words are plain, or full with --full. The table has A table guard bits and B input guard bits, 2 and 3 where they
+ * are not given. Where words are wrong, the first one is shown, with the bytes that hold it and what they should be,
+ * and the wrong words are counted. Where every word is right, the first byte is shown that has a set bit behind them, a
+ * filling bit or a bit past the image. The file is read whole, whatever its size. The exit status is 1 where something
+ * is wrong or the library turns the call back, and 2 where the arguments, the memory, the file or the output do not
+ * allow it. */
 #include <errno.h>
 #include <inttypes.h>
 #include <stdio.h>
@@ -12,7 +16,10 @@
 #include <string.h>
 #include "caller.h"
 
-/* Reads a file to its end, into a block that doubles as long as it is filled. NULL, with errno set, where that cannot be done. */
+static const struct program program = {"proofread", "[--full] [-a A] [-b B] K FILE", false, 2, 2};
+
+/* Reads a file to its end, into a block that doubles as long as it is filled. NULL, with errno set, where that cannot
+   be done. */
 static uint8_t *read_whole(const char *name, size_t *length)
 {
     FILE *file = fopen(name, "rb");
@@ -49,36 +56,54 @@ static void print_hex(const uint8_t *bytes, size_t count)
         printf(" %02X", bytes[at]);
 }
 
-/* Prints the wrong word of node j. */
-static void print_word(uint32_t k, const uint8_t *rom, size_t length, uint32_t j)
+/* Prints the wrong word of node j, the first one, beside the right image, and how many words are wrong. */
+static void print_word(yildegga_format format, const uint8_t *right, const uint8_t *rom, size_t length, uint32_t j)
 {
-    uint8_t right[YILDEGGA_LONGEST_IMAGE];
-    yildegga_build(YILDEGGA_PLAIN(k), right, sizeof right); /* served: k is a precision, and the longest image has room */
-    yildegga_part at = yildegga_word_bytes(YILDEGGA_PLAIN(k), rom, length, j);
-    yildegga_node_read node = yildegga_node(YILDEGGA_PLAIN(k), right, sizeof right, j);
+    yildegga_part at = yildegga_word_bytes(format, rom, length, j);
+    yildegga_node_read node = yildegga_node(format, right, YILDEGGA_ANY_LONGEST_IMAGE, j);
     printf("wrong word at node %" PRIu32 ", bytes %zu to %zu:", j, at.offset, at.offset + at.count - 1);
     print_hex(rom + at.offset, at.count);
     printf("\nshould be");
     print_hex(right + at.offset, at.count);
     printf(": node %" PRIu32 " is %" PRIu64 " table units\n", j, node.value.count);
+
+    uint32_t words = YILDEGGA_TABLE_WORD_COUNT(format.precision, format.form), wrong = 0;
+    for (uint32_t each = j; each < words; each++)
+        wrong += yildegga_node(format, rom, length, each).number == YILDEGGA_WRONG_WORD;
+    printf("wrong words: %" PRIu32 " of %" PRIu32 "\n", wrong, words);
+}
+
+/* Prints the first byte with a set bit behind the words, beside the right image. */
+static void print_tail(yildegga_format format, const uint8_t *right, const uint8_t *rom, size_t at)
+{
+    size_t image = yildegga_image_length(format);
+    printf("wrong %s at byte %zu:", at < image ? "filling bits" : "tail", at);
+    print_hex(rom + at, 1);
+    printf("\nshould be");
+    print_hex(at < image ? right + at : (const uint8_t *)"", 1);
+    printf(": the image is bytes 0 to %zu\n", image - 1);
 }
 
 /* Checks the bytes of a file and prints what is found. It gives the exit status. */
-static int proofread(uint32_t k, const uint8_t *rom, size_t length)
+static int proofread(yildegga_format format, const uint8_t *rom, size_t length)
 {
-    yildegga_done checked = yildegga_check(YILDEGGA_PLAIN(k), rom, length);
+    static uint8_t right[YILDEGGA_ANY_LONGEST_IMAGE];
+    yildegga_done checked = yildegga_check(format, rom, length);
+    yildegga_build(format, right, sizeof right); /* the image, where there is one of the format */
     switch (checked.number) {
     case YILDEGGA_SERVED:
         printf("right\n");
         break;
     case YILDEGGA_WRONG_WORD:
-        print_word(k, rom, length, (uint32_t)checked.place);
+        print_word(format, right, rom, length, (uint32_t)checked.place);
         break;
     case YILDEGGA_TAIL_NOT_ZERO:
-        printf("wrong tail at byte %" PRIu64 ":", checked.place);
-        print_hex(rom + checked.place, 1);
-        printf("\nshould be 00: the image is bytes 0 to %zu\n", yildegga_image_length(YILDEGGA_PLAIN(k)) - 1);
+        print_tail(format, right, rom, (size_t)checked.place);
         break;
+    case YILDEGGA_SHORT_BUFFER:
+        fprintf(stderr, "proofread: refusal 2: %s: the file has %zu bytes, and the image %zu\n",
+                yildegga_refusal_text(checked.number), length, yildegga_image_length(format));
+        return TURNED_BACK;
     default:
         return turned_back("proofread", checked.number);
     }
@@ -89,18 +114,17 @@ static int proofread(uint32_t k, const uint8_t *rom, size_t length)
 
 int main(int argc, char **argv)
 {
+    struct call call;
     uint32_t k;
-    if (argc != 3)
-        return not_called("proofread", "usage: proofread K FILE");
-    if (!read_number_32(argv[1], strlen(argv[1]), &k))
-        return not_called("proofread", "K is not a number from 1 to 12");
+    if (!read_call(program, argc, argv, &call) || !read_word(program, "K", call.words[0], &k))
+        return NOT_CALLED;
     size_t length;
-    uint8_t *rom = read_whole(argv[2], &length);
+    uint8_t *rom = read_whole(call.words[1], &length);
     if (!rom) {
-        fprintf(stderr, "proofread: %s: %s\n", argv[2], errno == ENOMEM ? "out of memory" : strerror(errno));
+        fprintf(stderr, "proofread: %s: %s\n", call.words[1], errno == ENOMEM ? "out of memory" : strerror(errno));
         return NOT_CALLED;
     }
-    int status = proofread(k, rom, length);
+    int status = proofread(asked(&call, k), rom, length);
     free(rom);
     return status;
 }

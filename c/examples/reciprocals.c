@@ -1,32 +1,46 @@
 /* The reciprocals of a list of operands at precision K, each operand X with N fraction bits: a line `X R` for each, or
- * `X refused NUMBER PLACE`. Where no X is given, each line of standard input is one. The exit status is 1 where the library turned a
- * call back, and 2 where the arguments, the input or the output do not allow it: the first operand that is no number ends the list.
+ * `X refused NUMBER PLACE`.
  *
- *     reciprocals K N [X...]
- */
-#define _POSIX_C_SOURCE 200809L /* getline */
+ *     reciprocals [--full] [-a A] [-b B] K N [X...]
+ *
+ * Where no X is given, each line of standard input is one. A line has at most 1000 bytes. The image has plain words, or
+ * full ones with --full. The table has A table guard bits and B input guard bits, 2 and 3 where they are not given. The
+ * exit status is 1 where the library turned a call back, and 2 where the arguments, the input or the output do not
+ * allow it: the first operand that is no number, or a line that is too long, ends the list. */
 #include <errno.h>
 #include <inttypes.h>
+#include <limits.h>
 #include <stdio.h>
-#include <stdlib.h>
 #include <string.h>
 #include "caller.h"
 
-static uint8_t image[YILDEGGA_LONGEST_IMAGE];
-static uint32_t k, n;
-static unsigned long which; /* the operand, from 1 */
-static int status;
+static const struct program program = {"reciprocals", "[--full] [-a A] [-b B] K N [X...]", false, 2, INT_MAX};
 
-/* Prints the line of one operand. False, with no line, where it is no number. */
+#define LONGEST_LINE 1000 /* bytes, the line feed not among them */
+
+static uint8_t image[YILDEGGA_ANY_LONGEST_IMAGE];
+static yildegga_format format;
+static uint32_t n;
+static int status;
+static unsigned long which; /* the operand, from 1 */
+static const char *mistake; /* what is wrong with it, NULL where nothing is */
+static int unreadable;      /* why the input cannot be read, 0 where it can */
+
+/* Ends the list: the operand is none. */
+static bool no_operand(const char *why)
+{
+    mistake = why;
+    return false;
+}
+
+/* Prints the line of the next operand. False, with no line, where it is no number. */
 static bool answer(const char *text, size_t length)
 {
     uint64_t x;
     which++;
-    if (!read_number(text, length, UINT64_MAX, &x)) {
-        status = NOT_CALLED;
-        return false;
-    }
-    yildegga_reciprocal_given given = yildegga_reciprocal(YILDEGGA_PLAIN(k), image, sizeof image, n, x);
+    if (!read_number(text, length, UINT64_MAX, &x))
+        return no_operand("is not a number below 2^64");
+    yildegga_reciprocal_given given = yildegga_reciprocal(format, image, sizeof image, n, x);
     if (given.number == YILDEGGA_SERVED) {
         printf("%" PRIu64 " %" PRIu64 "\n", x, given.value.count);
     } else {
@@ -36,32 +50,52 @@ static bool answer(const char *text, size_t length)
     return true;
 }
 
+/* Reads the next line of standard input and answers it. False at the end of the input or of the list. A line that
+   cannot be read to its end is not answered. */
+static bool answer_line(void)
+{
+    char line[LONGEST_LINE];
+    size_t length = 0;
+    int byte;
+    while ((byte = getchar()) != EOF && byte != '\n') {
+        if (length == sizeof line) {
+            which++;
+            return no_operand("is a line of more than 1000 bytes");
+        }
+        line[length++] = (char)byte;
+    }
+    if (byte == EOF && ferror(stdin))
+        unreadable = errno;
+    if (byte == EOF && (unreadable || length == 0))
+        return false;
+    return answer(line, length) && byte != EOF;
+}
+
 int main(int argc, char **argv)
 {
-    if (argc < 3)
-        return not_called("reciprocals", "usage: reciprocals K N [X...]");
-    if (!read_number_32(argv[1], strlen(argv[1]), &k))
-        return not_called("reciprocals", "K is not a number from 1 to 12");
-    if (!read_number_32(argv[2], strlen(argv[2]), &n))
-        return not_called("reciprocals", "N is not a number from 1 to 63");
-    yildegga_done built = yildegga_build(YILDEGGA_PLAIN(k), image, sizeof image);
+    struct call call;
+    uint32_t k;
+    if (!read_call(program, argc, argv, &call) || !read_word(program, "K", call.words[0], &k) ||
+        !read_word(program, "N", call.words[1], &n))
+        return NOT_CALLED;
+    format = asked(&call, k);
+    yildegga_done built = yildegga_build(format, image, sizeof image);
     if (built.number != YILDEGGA_SERVED)
         return turned_back("reciprocals", built.number);
 
-    char **operand = argv + 3;
-    while (*operand && answer(*operand, strlen(*operand)))
+    int operand = program.least;
+    while (operand < call.count && answer(call.words[operand], strlen(call.words[operand])))
         operand++;
-    if (argc == 3) {
-        char *line = NULL;
-        size_t room = 0;
-        ssize_t length;
-        while ((length = getline(&line, &room, stdin)) > 0 && answer(line, (size_t)length - (line[length - 1] == '\n')))
+    if (call.count == program.least)
+        while (answer_line())
             continue;
-        free(line);
-    }
-    if (ferror(stdin) || fflush(stdout) != 0 || ferror(stdout))
+    if (fflush(stdout) != 0 || ferror(stdout))
         return not_called("reciprocals", strerror(errno));
-    if (status == NOT_CALLED)
-        fprintf(stderr, "reciprocals: operand %lu is not a number below 2^64\n", which);
+    if (unreadable)
+        return not_called("reciprocals", strerror(unreadable));
+    if (mistake) {
+        fprintf(stderr, "reciprocals: operand %lu %s\n", which, mistake);
+        return NOT_CALLED;
+    }
     return status;
 }

@@ -1,39 +1,32 @@
-//! Orders a ROM: builds the image of precision K in plain words, with A table guard bits and B input guard bits, or 2 and 3 where they
-//! are not given, with zeros behind it to SIZE bytes, or the image alone where no SIZE is given, writes it to FILE, and prints K and the
-//! bytes written. The exit status is 1 where the library turns the call back, and 2 where the arguments, the memory, the file or the output
-//! do not allow it.
+//! Orders a ROM: builds the image of precision K, writes it to FILE, and prints K and the bytes written.
 //!
-//!     order_image K FILE [SIZE] [A B]
+//!     order_image [--full] [-a A] [-b B] [--size SIZE] K FILE
+//!
+//! The words are plain, or full with `--full`. The table has A table guard bits and B input guard bits, 2 and 3 where
+//! they are not given. With `--size`, zeros follow the image to the last of SIZE bytes. The exit status is 1 where the
+//! library turns the call back, and 2 where the arguments, the memory, the file or the output do not allow it.
 #![forbid(unsafe_code)]
 
-use std::env;
 use std::error::Error;
 use std::fs;
 use std::io::{self, ErrorKind, Write};
 use std::path::Path;
 use std::process::ExitCode;
 
-use yildegga::Format;
-
 mod caller;
 
-fn order() -> Result<u8, Box<dyn Error>> {
-    let words: Vec<_> = env::args_os().skip(1).collect();
-    let (k, file, size, guard_bits) = match words.as_slice() {
-        [k, file] => (k, file, None, None),
-        [k, file, size] => (k, file, Some(size), None),
-        [k, file, a, b] => (k, file, None, Some((a, b))),
-        [k, file, size, a, b] => (k, file, Some(size), Some((a, b))),
-        _ => return Err("usage: order_image K FILE [SIZE] [A B]".into()),
+use caller::{Call, Program};
+
+const PROGRAM: Program = Program { name: "order_image", usage: "[--full] [-a A] [-b B] [--size SIZE] K FILE", sizes: true, words: 2..=2 };
+
+fn order(call: Call) -> Result<u8, Box<dyn Error>> {
+    let k = PROGRAM.number("K", &call.words[0])?;
+    let file = Path::new(&call.words[1]);
+    let format = call.format(k);
+    let size = match call.size {
+        Some(size) => size as usize,
+        None => format.image_length().unwrap_or(0),
     };
-    let k = k.to_str().and_then(caller::number).ok_or("K is not a number from 1 to 12")?;
-    let size = match size {
-        None => None,
-        Some(size) => Some(size.to_str().and_then(caller::number).ok_or("SIZE is not a number below 2^64")?),
-    };
-    let format = caller::guarded(Format::plain(k), guard_bits)?;
-    let size = size.or(format.image_length()).unwrap_or(0);
-    let file = Path::new(file);
 
     let mut rom = Vec::new();
     rom.try_reserve_exact(size).map_err(|_| io::Error::from(ErrorKind::OutOfMemory))?;
@@ -45,5 +38,5 @@ fn order() -> Result<u8, Box<dyn Error>> {
 }
 
 fn main() -> ExitCode {
-    caller::end("order_image", order())
+    PROGRAM.run(order)
 }

@@ -2,8 +2,8 @@
 use crate::units::TableUnits;
 
 /// The value of node `j` of precision 8, from 0 to 256, out of the list of constants that the library carries: what
-/// [`node`](crate::node()) reads from an image of precision 8 with two table guard bits, without an image. It is 0, which no node is, where `j`
-/// is above 256.
+/// [`node`](crate::node()) reads from an image of precision 8 with two table guard bits, without an image. It is 0,
+/// which no node is, where `j` is above 256.
 ///
 /// ```
 /// use yildegga::TableUnits;

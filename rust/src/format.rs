@@ -1,24 +1,27 @@
 //! The description of the table that a call is asked for.
 use crate::limits::{last_node, GREATEST_INPUT_GUARD_BITS, GREATEST_TABLE_GUARD_BITS, LEAST_INPUT_GUARD_BITS, LEAST_TABLE_GUARD_BITS};
 
-/// How the words of an image hold the nodes. In either form zero bits, the filling bits, follow the last word to its byte's end, where it does
-/// not end with one.
+/// How the words of an image hold the nodes. In either form zero bits, the filling bits, follow the last word to its
+/// byte's end, where it does not end with one.
 ///
 /// ```
 /// use yildegga::{Form, Format};
 /// assert_eq!((Format::plain(2).form(), Format::full(2).form()), (Form::Plain, Form::Full));
 /// ```
+///
+/// Forms may be added: a `match` on one has an arm for those that it does not name.
 #[derive(Clone, Copy, Debug, PartialEq, Eq, Hash)]
+#[non_exhaustive]
 pub enum Form {
-    /// Words of 2k + a bits, where a are the table guard bits, which leave the leading one of a node out, for the nodes below 2^k; node 2^k is
-    /// implied.
+    /// Words of 2k + a bits, where a are the table guard bits, which leave the leading one of a node out, for the nodes
+    /// below 2^k; node 2^k is implied.
     Plain,
     /// Words of 2k + a + 2 bits, which hold the node itself, for every node from 0 to 2^k.
     Full,
 }
 
-/// A table as it is asked for: its precision k, the form of its words, its table guard bits a and its input guard bits b. Any numbers can be
-/// asked for; k from 1 to 12, a from 2 to 4 and b from 3 to 5 are served.
+/// A table as it is asked for: its precision k, the form of its words, its table guard bits a and its input guard bits
+/// b. Any numbers can be asked for; k from 1 to 12, a from 2 to 4 and b from 3 to 5 are served.
 ///
 /// ```
 /// use yildegga::{Format, TableUnits};
@@ -46,7 +49,8 @@ impl Format {
     ///
     /// ```
     /// use yildegga::{Format, GREATEST_INPUT_GUARD_BITS, GREATEST_PRECISION, GREATEST_TABLE_GUARD_BITS};
-    /// let longest = Format::full(GREATEST_PRECISION).with_guard_bits(GREATEST_TABLE_GUARD_BITS, GREATEST_INPUT_GUARD_BITS);
+    /// let longest = Format::full(GREATEST_PRECISION);
+    /// let longest = longest.with_guard_bits(GREATEST_TABLE_GUARD_BITS, GREATEST_INPUT_GUARD_BITS);
     /// assert_eq!(longest.image_length(), Some(Format::LONGEST));
     /// ```
     pub const LONGEST: usize = 15364;
@@ -59,8 +63,8 @@ impl Format {
     /// ```
     pub const LONGEST_PLAIN: usize = 13312;
 
-    /// The bytes of the longest full image with two table guard bits, that of the greatest precision: a buffer of this length serves every
-    /// format with two.
+    /// The bytes of the longest full image with two table guard bits, that of the greatest precision: a buffer of this
+    /// length serves every format with two.
     ///
     /// ```
     /// use yildegga::{Format, GREATEST_PRECISION};
@@ -94,19 +98,19 @@ impl Format {
         Format { precision: k, form: Form::Full, table_guard_bits: 2, input_guard_bits: 3 }
     }
 
-    /// The same precision and form with other guard bits: those of the table, a, make a table unit finer than an ulp, and those of the input, b,
-    /// are fraction bits of an operand that are looked at beyond 2k.
+    /// The same precision and form with other guard bits: those of the table, a, make a table unit finer than an ulp,
+    /// and those of the input, b, are fraction bits of an operand that are looked at beyond 2k.
     ///
     /// ```
     /// use yildegga::{Format, TableUnits, Ulps};
-    /// // Three table guard bits: 64, 43 and an implied 32 where two give 32, 22 and 16. The words 0 and 11 have five bits each.
+    /// // Three table guard bits: 64, 43 and an implied 32 where two give 32, 22 and 16. The words are 0 and 11.
     /// let one = Format::plain(1).with_guard_bits(3, 3);
     /// let mut image = [0xFF; 2];
     /// yildegga::build(one, &mut image)?;
     /// assert_eq!(image, [0b00000_010, 0b11_000000]);
     /// assert_eq!(yildegga::node(one, &image, 1)?, TableUnits(43));
     ///
-    /// // Four input guard bits: six fraction bits of an operand are looked at, and of 65 / 2^6 the last one makes a difference.
+    /// // Four input guard bits: six fraction bits of an operand are looked at, and the last one of 65 / 2^6 counts.
     /// let image = [0x06];
     /// let wider = Format::plain(1).with_guard_bits(2, 4);
     /// assert_eq!(yildegga::reciprocal(Format::plain(1), &image, 6, 65)?, Ulps(8));
@@ -236,7 +240,7 @@ impl Format {
     /// ```
     /// use yildegga::Format;
     /// assert_eq!((Format::plain(2).image_length(), Format::full(2).image_length()), (Some(3), Some(5)));
-    /// assert_eq!(Format::plain(2).with_guard_bits(3, 3).image_length(), Some(4)); // four words of seven bits, and four filling bits
+    /// assert_eq!(Format::plain(2).with_guard_bits(3, 3).image_length(), Some(4)); // four words of seven bits
     /// assert_eq!(Format::plain(13).image_length(), None);
     /// assert_eq!(Format::plain(2).with_guard_bits(3, 6).image_length(), None);
     ///

@@ -9,8 +9,8 @@ use crate::units::TableUnits;
 ///
 /// Turned back by refusals 1, 18 and 2.
 ///
-/// It computes with doubles, the one call that does. The bytes are the same in every rounding mode, and the mode stays as it is. The inexact
-/// flag may be raised: who has made that trap has to mask it for the call.
+/// It computes with doubles, the one call that does. The bytes are the same in every rounding mode, and the mode stays
+/// as it is. The inexact flag may be raised: who has made that trap has to mask it for the call.
 ///
 /// ```
 /// use yildegga::Format;
@@ -39,11 +39,12 @@ pub fn build(format: Format, image: &mut [u8]) -> Result<(), Refused> {
     served(yildegga_sys::build(format.numbers(), image)).map(|_| ())
 }
 
-/// Whether the buffer is a full ROM of the format: every word of the image is the construction's, and every filling bit and every byte past
-/// the image is zero.
+/// Whether the buffer is a full ROM of the format: every word of the image is the construction's, and every filling bit
+/// and every byte past the image is zero.
 ///
-/// Turned back by refusals 1, 18, 2, 6 and 7; the place of 6 is the lowest node whose word is wrong, and that of 7, where every word is right,
-/// the lowest byte with a set bit behind the last word: the image's last byte, where a filling bit is set, or else a byte past the image.
+/// Turned back by refusals 1, 18, 2, 6 and 7; the place of 6 is the lowest node whose word is wrong, and that of 7,
+/// where every word is right, the lowest byte with a set bit behind the last word: the image's last byte, where a
+/// filling bit is set, or else a byte past the image.
 ///
 /// ```
 /// use yildegga::Format;
@@ -69,7 +70,7 @@ pub fn build(format: Format, image: &mut [u8]) -> Result<(), Refused> {
 /// let refused = yildegga::check(one, &[0x81, 0x64, 0x01, 0x01]).unwrap_err();
 /// assert_eq!((refused.number(), refused.place()), (7, 2));
 ///
-/// // Plain words have filling bits too where their bits do not fill the last byte: of precision 1 with three table guard bits they have ten.
+/// // Plain words have filling bits too where their bits do not fill the last byte: here the two words have ten bits.
 /// let one = Format::plain(1).with_guard_bits(3, 3);
 /// yildegga::check(one, &[0x02, 0xC0])?;
 /// let refused = yildegga::check(one, &[0x02, 0xC1]).unwrap_err();
@@ -81,10 +82,11 @@ pub fn check(format: Format, image: &[u8]) -> Result<(), Refused> {
     served(yildegga_sys::check(format.numbers(), image)).map(|_| ())
 }
 
-/// The value of node `j`, from 0 to 2^k: 2^(3k+a+1) / (2^k + j), rounded up, in table units, where a are the table guard bits.
+/// The value of node `j`, from 0 to 2^k: 2^(3k+a+1) / (2^k + j), rounded up, in table units, where a are the table
+/// guard bits.
 ///
-/// Turned back by refusals 1, 18, 2, 3 and 6. The answer depends on the word of node `j` and on no other; node 2^k has no plain word, and is
-/// implied.
+/// Turned back by refusals 1, 18, 2, 3 and 6. The answer depends on the word of node `j` and on no other; node 2^k has
+/// no plain word, and is implied.
 ///
 /// ```
 /// use yildegga::{Format, TableUnits};
@@ -111,7 +113,8 @@ pub fn node(format: Format, image: &[u8], j: u32) -> Result<TableUnits, Refused>
 
 /// The bytes that hold the word of node `j`, as a part of the caller's image. The word is not judged.
 ///
-/// The part is empty exactly where refusal 1, 18 or 2 applies or node `j` has no word: where `j` is above 2^k - 1 plain, above 2^k full.
+/// The part is empty exactly where refusal 1, 18 or 2 applies or node `j` has no word: where `j` is above 2^k - 1
+/// plain, above 2^k full.
 ///
 /// ```
 /// use yildegga::Format;
@@ -122,7 +125,8 @@ pub fn node(format: Format, image: &[u8], j: u32) -> Result<TableUnits, Refused>
 /// assert_eq!(yildegga::word_bytes(Format::plain(2), &image[..2], 1), []); // the buffer is too short
 ///
 /// assert_eq!(yildegga::word_bytes(Format::full(2), &[0x80, 0x67, 0x56, 0x4A, 0x40], 4), [0x40]);
-/// assert_eq!(yildegga::word_bytes(Format::full(2).with_guard_bits(2, 6), &[0x80, 0x67, 0x56, 0x4A, 0x40], 4), []); // refusal 18
+/// let no_guard_bits = Format::full(2).with_guard_bits(2, 6);
+/// assert_eq!(yildegga::word_bytes(no_guard_bits, &[0x80, 0x67, 0x56, 0x4A, 0x40], 4), []); // refusal 18
 /// ```
 #[inline]
 pub fn word_bytes(format: Format, image: &[u8], j: u32) -> &[u8] {

@@ -1,27 +1,29 @@
-//! Reciprocal tables for graphics hardware, and the reciprocals taken from them, in which every word and every last place is proved.
+//! Reciprocal tables for graphics hardware, and the reciprocals taken from them, in which every word and every last
+//! place is proved.
 //!
-//! A table has a precision k from 1 to 12. Its image, a string of bit-packed words, stands in bytes that the caller lends, and the
-//! words have one of two forms. A plain word holds a node without its leading one, and the last node is implied; a full word holds the
-//! node itself, for every node. A [`Format`] says both, and the guard bits: [`Format::plain`]`(k)` or [`Format::full`]`(k)`; and the calls on an image take it
-//! with those bytes. These may be more than the image has: those past it are the tail, and an image with zeros to the end of the bytes
-//! is a full ROM.
+//! A table has a precision k from 1 to 12. Its image, a string of bit-packed words, stands in bytes that the caller
+//! lends, and the words have one of two forms. A plain word holds a node without its leading one, and the last node is
+//! implied; a full word holds the node itself, for every node. A [`Format`] says both, and the guard bits:
+//! [`Format::plain`]`(k)` or [`Format::full`]`(k)`; and the calls on an image take it with those bytes. These may be
+//! more than the image has: those past it are the tail, and an image with zeros to the end of the bytes is a full ROM.
 //!
-//! The table guard bits, a from 2 to 4, make a table unit finer than an ulp: it is 1 / 2^(2k+a+1). With the input guard bits, b from 3 to 5, the
-//! first 2k + b fraction bits of an operand are looked at. A format has two and three of them where [`Format::with_guard_bits`] orders no others.
+//! The table guard bits, a from 2 to 4, make a table unit finer than an ulp: it is 1 / 2^(2k+a+1). With the input guard
+//! bits, b from 3 to 5, the first 2k + b fraction bits of an operand are looked at. A format has two and three of them
+//! where [`Format::with_guard_bits`] orders no others.
 //!
 //! - [`build`] writes a full ROM, the image and zeros behind it; [`Format::image_length`] says how long the image is;
-//! - [`check`] tells whether the bytes are a full ROM, and names the lowest node whose word is wrong, or else the lowest byte with a set
-//!   bit behind the last word;
+//! - [`check`] tells whether the bytes are a full ROM, and names the lowest node whose word is wrong, or else the
+//!   lowest byte with a set bit behind the last word;
 //! - [`node`] reads one node, [`word_bytes`] and [`word_range`] show the bytes that hold its word;
 //! - [`node_8`] gives a node of precision 8, with two table guard bits, without an image;
 //! - [`reciprocal`] gives the reciprocal of an operand of 1 to 63 fraction bits, less than one ulp from the exact one;
 //! - a [`BoundTable`] keeps an image and its format together for many operands.
 //!
-//! The tail, and the filling bits that may follow the last word to its byte's end, are for [`build`] and [`check`]: the other calls give
-//! the same whatever they hold, but that the bytes of the last word show its filling bits as they are.
+//! The tail, and the filling bits that may follow the last word to its byte's end, are for [`build`] and [`check`]: the
+//! other calls give the same whatever they hold, but that the bytes of the last word show its filling bits as they are.
 //!
-//! No call has a precondition: whatever breaks a limit is turned back as a [`Refused`], with a number and a place, and leaves every
-//! byte as it was. No call panics, allocates or keeps anything.
+//! No call has a precondition: whatever breaks a limit is turned back as a [`Refused`], with a number and a place, and
+//! leaves every byte as it was. No call panics, allocates or keeps anything.
 //!
 //! ```
 //! use yildegga::Format;
@@ -57,8 +59,8 @@
 //! # Ok::<(), yildegga::Refused>(())
 //! ```
 //!
-//! The calls are those of `libyildegga.a`, where each is proved to meet its contract on all inputs; this crate adds slices, units
-//! and an error type.
+//! The calls are those of `libyildegga.a`, where each is proved to meet its contract on all inputs; this crate adds
+//! slices, units and an error type.
 #![forbid(unsafe_code)]
 #![deny(missing_docs)]
 

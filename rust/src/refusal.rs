@@ -4,8 +4,10 @@ use std::fmt;
 
 use yildegga_sys::Answer;
 
-/// Why a call is turned back. Where several apply, the first in checking order is given: 1, 18, 2, 3, and so on to 7. They are listed here in
-/// this order, and are compared by their numbers.
+/// Why a call is turned back. Where several apply, the first in checking order is given: 1, 18, 2, 3, and so on to 7.
+/// They are listed here in this order, and have no other: their numbers are names.
+///
+/// Refusals may be added: a `match` on one has an arm for those that it does not name.
 ///
 /// ```
 /// use yildegga::{Format, Refusal};
@@ -17,12 +19,14 @@ use yildegga_sys::Answer;
 /// let refused = yildegga::check(Format::plain(12).with_guard_bits(5, 3), &[]).unwrap_err();
 /// assert_eq!(refused.refusal(), Refusal::GuardBits);
 /// ```
-#[derive(Clone, Copy, Debug, PartialEq, Eq, PartialOrd, Ord, Hash)]
+#[derive(Clone, Copy, Debug, PartialEq, Eq, Hash)]
+#[non_exhaustive]
 #[repr(u32)]
 pub enum Refusal {
     /// The precision is below 1 or above 12.
     Precision = 1,
-    /// The table guard bits are not 2 to 4, or the input guard bits not 3 to 5, also in a call that has no use for them.
+    /// The table guard bits are not 2 to 4, or the input guard bits not 3 to 5, also in a call that has no use for
+    /// them.
     GuardBits = 18,
     /// The buffer is shorter than the image of that format.
     ShortBuffer = 2,
@@ -107,8 +111,8 @@ impl Refused {
         self.refusal.number()
     }
 
-    /// In refusal 6 the lowest node whose word was read and is wrong, in refusal 7 the number of the lowest byte with a set bit behind the
-    /// last word, counted from 0 at the buffer's start, and 0 in the others.
+    /// In refusal 6 the lowest node whose word was read and is wrong, in refusal 7 the number of the lowest byte with a
+    /// set bit behind the last word, counted from 0 at the buffer's start, and 0 in the others.
     ///
     /// ```
     /// use yildegga::Format;

@@ -1,5 +1,5 @@
-//! Formats, and full words (document 02, Q-7): the images of precisions 1 and 2 as they are set, what an image holds, its last node; filling
-//! bits in either form.
+//! Formats, and full words: the images of precisions 1 and 2 as they are set, what an image holds,
+//! its last node; filling bits in either form.
 #![forbid(unsafe_code)]
 
 mod common;
@@ -89,7 +89,8 @@ fn full_and_plain() -> impl Iterator<Item = (Format, Format)> {
     (1..=12).flat_map(|k| guarded(Format::full(k))).map(move |full| (full, plain(full)))
 }
 
-/// The words of an image, as a bench reads them from its bytes alone, are the nodes; and plain words are their last bits.
+/// The words of an image, as a bench reads them from its bytes alone, are the nodes; and plain words are their last
+/// bits.
 #[test]
 fn words_are_the_nodes() {
     for (full, plain) in full_and_plain() {
@@ -150,14 +151,16 @@ fn the_last_node_has_a_word() {
             for (n, x) in [(63, u64::MAX), (kept(full), (2 << kept(full)) - 1), (k, (2 << k) - 1)] {
                 assert_eq!(said(reciprocal(full, &wrong, n, x)).map(|r| r.0), refused, "{full:?}, bit {bit}, n = {n}");
             }
-            let before = (1u64 << 63) + ((u64::from(last) - 1) << (63 - k)) - 1; // the last operand of the piece before the last
+            // The last operand of the piece before the last.
+            let before = (1u64 << 63) + ((u64::from(last) - 1) << (63 - k)) - 1;
             assert_eq!(said(reciprocal(full, &wrong, 63, before)), said(reciprocal(full, &right, 63, before)), "{full:?}, bit {bit}");
         }
     }
 }
 
-/// The filling bits, in every combination: where one is set, the check names the image's last byte, before any of the tail and after any wrong
-/// word, and no other call is changed. Node 2^k of a plain image is not what they and the tail hold.
+/// The filling bits, in every combination: where one is set, the check names the image's last byte, before any of the
+/// tail and after any wrong word, and no other call is changed. Node 2^k of a plain image is not what they and the tail
+/// hold.
 #[test]
 fn filling_bits_are_the_check_s() {
     let mut with = [(); 2].map(|()| [(); 3].map(|()| Vec::new()));

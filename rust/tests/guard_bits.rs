@@ -1,5 +1,5 @@
-//! Guard bits to order (document 02, Q-14): set examples at precisions 1 and 2, what each of the two numbers changes, and the errors that they
-//! invite.
+//! Guard bits to order: set examples at precisions 1 and 2, what each of the two numbers changes,
+//! and the errors that they invite.
 #![forbid(unsafe_code)]
 
 mod common;
@@ -79,14 +79,15 @@ fn filling_bits_are_not_the_last_node() {
     }
 }
 
-/// Set reciprocals at precision 2 with seven fraction bits, by the steps of document 01.
+/// Set reciprocals at precision 2 with seven fraction bits, by the rule of docs/SCOPE.md, "The reciprocal".
 #[test]
 fn set_reciprocals() {
     let r = |a, b, n, x| {
         let format = Format::plain(2).with_guard_bits(a, b);
         said(reciprocal(format, &image(format), n, x)).unwrap().0
     };
-    // P of 135 / 2^7 is 128 × 32 - 25 × 7 = 3921, then 256 × 32 - 51 × 7 = 7835 and 512 × 32 - 102 × 7 = 15670. An ulp is 128, 256 and 512.
+    // P of 135 / 2^7 is 128 × 32 - 25 × 7 = 3921, then 256 × 32 - 51 × 7 = 7835 and 512 × 32 - 102 × 7 = 15670. An ulp
+    // is 128, 256 and 512.
     assert_eq!([r(2, 3, 7, 135), r(3, 3, 7, 135), r(4, 3, 7, 135)], [30, 30, 30]);
     // At node 1 it is 103 / 4, 205 / 8 and 410 / 16.
     assert_eq!([r(2, 3, 7, 160), r(3, 3, 7, 160), r(4, 3, 7, 160)], [25, 25, 25]);
@@ -110,8 +111,8 @@ fn table_guard_bits_change_reciprocals() {
     }
 }
 
-/// Each format has reciprocals less than an ulp off, those of the rule: at the ends of its pieces, and with bits to the right of those that are
-/// looked at.
+/// Each format has reciprocals less than an ulp off, those of the rule: at the ends of its pieces, and with bits to the
+/// right of those that are looked at.
 #[test]
 fn reciprocals_are_the_rule_s() {
     for format in every_format() {

@@ -73,7 +73,8 @@ fn reading_writes_nothing() {
     }
 }
 
-/// But for the check, no call that reads depends on the tail or the filling bits: whatever stands there, the answers are the same.
+/// But for the check, no call that reads depends on the tail or the filling bits: whatever stands there, the answers
+/// are the same.
 #[test]
 fn no_node_or_reciprocal_depends_on_the_tail() {
     for format in every_format() {

@@ -1,4 +1,4 @@
-//! Operands with fewer fraction bits than the 2k + b that a format looks at (document 02, Q-1): they are padded with zeros.
+//! Operands with fewer fraction bits than the 2k + b that a format looks at: they are padded with zeros.
 #![forbid(unsafe_code)]
 
 mod common;
@@ -13,7 +13,8 @@ fn given(format: Format, image: &[u8], n: u32, x: u64) -> Ulps {
     answer.unwrap_or_else(|refused| panic!("{format:?}, n = {n}, X = {x}: {refused}"))
 }
 
-/// R is the rule's, less than an ulp off, and that of the operand which the caller has padded, to as many bits as are looked at and to 63.
+/// R is the rule's, less than an ulp off, and that of the operand which the caller has padded, to as many bits as are
+/// looked at and to 63.
 fn see(format: Format, image: &[u8], n: u32, x: u64) {
     let r = given(format, image, n, x);
     assert_eq!(r, rule(format, n, x), "{format:?}, n = {n}, X = {x}");
@@ -23,8 +24,8 @@ fn see(format: Format, image: &[u8], n: u32, x: u64) {
     }
 }
 
-/// All of them up to precision 8, with other guard bits than two and three up to precision 5, and from there those next to the ends and some
-/// between, at each number of fraction bits.
+/// All of them up to precision 8, with other guard bits than two and three up to precision 5, and from there those next
+/// to the ends and some between, at each number of fraction bits.
 #[test]
 fn are_served() {
     let mut state = 1u64;
@@ -65,7 +66,8 @@ fn at_the_ends() {
     }
 }
 
-/// Bits written to the right of 64, which has 6 fraction bits, leave R as it is where the one that precision 2 still looks at is zero.
+/// Bits written to the right of 64, which has 6 fraction bits, leave R as it is where the one that precision 2 still
+/// looks at is zero.
 #[test]
 fn with_bits_to_the_right() {
     let (format, two) = (Format::plain(2), image(Format::plain(2)));

@@ -1,9 +1,11 @@
-/* Makes every call at and around every limit and prints each with its answer on a line, for tests/c_side.py to compare.
+/* Makes every call at and around every limit and prints each with its answer on a line, for tests/c_side.py to
+ * compare.
  *
  *   calls GUARD     the lent bytes stand in a heap block between GUARD bytes before and GUARD after
  *
- * After each call the whole block must be as it was before, guard bytes too, except for the lent bytes of a build that was served. With
- * GUARD 0 the block is the lent bytes alone, for a memory checker to see what a call reads and writes beside them. */
+ * After each call the whole block must be as it was before, guard bytes too, except for the lent bytes of a build
+ * that was served. With GUARD 0 the block is the lent bytes alone, for a memory checker to see what a call reads and
+ * writes beside them. */
 #include <inttypes.h>
 #include <stdbool.h>
 #include <stdio.h>
@@ -64,8 +66,8 @@ static void see_kept(const char *call, size_t first)
 {
     if (first > length || memcmp(block, before, guard) != 0 ||
         memcmp(lent + first, before + guard + first, length - first + guard) != 0) {
-        fprintf(stderr, "%s at precision %" PRIu32 ", form %" PRIu32 ", guard bits %" PRIu32 " and %" PRIu32 ", with %zu bytes changed others\n",
-                call, k, form, a, b, length);
+        fprintf(stderr, "%s at precision %" PRIu32 ", form %" PRIu32 ", guard bits %" PRIu32 " and %" PRIu32
+                ", with %zu bytes changed others\n", call, k, form, a, b, length);
         exit(4);
     }
 }
@@ -140,23 +142,25 @@ static void calls_at(size_t at)
     remember();
     check();
 
-    uint32_t some_k = k < 13 ? k : 2, some_a = a - 2 < 3 ? a : 2, some_b = b - 3 < 3 ? b : 3; /* for numbers near a limit, where they have none */
+    /* for numbers near a limit, where they have none */
+    uint32_t some_k = k < 13 ? k : 2, some_a = a - 2 < 3 ? a : 2, some_b = b - 3 < 3 ? b : 3;
     uint32_t last = YILDEGGA_LAST_NODE(some_k);
     uint32_t near = (uint32_t)(8 * at / YILDEGGA_TABLE_WORD_BITS(some_k, form, some_a));
     uint32_t js[] = {0, 1, last - 1, last, last + 1, MOST_32, near, near + 1};
     for (size_t each = 0; each < COUNT(js); each++)
         nodes(js[each]);
 
-    /* each n below 2k + b + 2, so that operands are padded, neither padded nor cut, and cut, of few those at its ends; then those about the
-       upper limit */
+    /* each n below 2k + b + 2, so that operands are padded, neither padded nor cut, and cut, of few those at its
+       ends; then those about the upper limit */
     uint32_t below = 2 * some_k + some_b + 2, above[] = {63, 64, MOST_32};
     for (uint32_t each = 0; each < below + COUNT(above); each++) {
         if (few && each > 1 && each + 3 < below && each != some_k)
             continue;
         uint32_t n = each < below ? each : above[each - below];
         uint64_t one = UINT64_C(1) << (n < 64 ? n : 63); /* where n is at most 63, 2^n */
-        uint64_t at_near = one + (n < some_k ? near >> (some_k - n) : (one >> some_k) * near); /* the last operand up to node `near` */
-        uint64_t behind = at_near + (n < some_k ? 0 : UINT64_C(0x5555555555555555) % (one >> some_k)); /* between it and the next node */
+        /* the last operand up to node `near`, and one between it and the next node */
+        uint64_t at_near = one + (n < some_k ? near >> (some_k - n) : (one >> some_k) * near);
+        uint64_t behind = at_near + (n < some_k ? 0 : UINT64_C(0x5555555555555555) % (one >> some_k));
         uint64_t xs[] = {0, one - 1, one, one + 1, one + (one - 1), 2 * one, MOST_64, at_near, at_near - 1, behind};
         for (size_t which = 0; which < COUNT(xs); which++)
             reciprocals(n, xs[which]);
@@ -182,8 +186,8 @@ struct damage { size_t at; uint8_t mask; size_t and_at; uint8_t and_mask; };
 
 static void damaged(size_t count, struct damage damage)
 {
-    printf("lent %" PRIu32 " %" PRIu32 " %" PRIu32 " %" PRIu32 " %zu %zu %u %zu %u\n", form, k, a, b, count, damage.at, (unsigned)damage.mask,
-           damage.and_at, (unsigned)damage.and_mask);
+    printf("lent %" PRIu32 " %" PRIu32 " %" PRIu32 " %" PRIu32 " %zu %zu %u %zu %u\n", form, k, a, b, count, damage.at,
+           (unsigned)damage.mask, damage.and_at, (unsigned)damage.and_mask);
     lend(count);
     build();
     if (damage.mask)
@@ -215,17 +219,21 @@ static void cases(void)
         damaged(count, (struct damage){0, 0, 0, 0});
         if (!image || count < image)
             continue;
-        uint8_t bits = filling(), first = (uint8_t)(bits & ~(bits >> 1)), last = (uint8_t)(bits + 1); /* the first filling bit, the last word's last */
-        struct damage words[] = {{whole - 1, last, 0, 0}, {whole / 3, 0x10, 0, 0}, {0, 0x80, 0, 0}, {whole / 2, 0x01, 0, 0}, {whole - 1, 0x80, 0, 0}};
+        uint8_t bits = filling();
+        uint8_t first = (uint8_t)(bits & ~(bits >> 1)), last = (uint8_t)(bits + 1); /* the last word's last bit */
+        struct damage words[] = {{whole - 1, last, 0, 0}, {whole / 3, 0x10, 0, 0}, {0, 0x80, 0, 0},
+                                 {whole / 2, 0x01, 0, 0}, {whole - 1, 0x80, 0, 0}};
         for (size_t which = 0; which < (few ? 2 : COUNT(words)); which++)
             damaged(count, words[which]);
-        struct damage fillings[] = {{whole - 1, first, 0, 0}, {whole - 1, bits, 0, 0}, {whole - 1, first, 0, 0x80}, {whole - 1, bits, count - 1, 0x02}};
+        struct damage fillings[] = {{whole - 1, first, 0, 0}, {whole - 1, bits, 0, 0}, {whole - 1, first, 0, 0x80},
+                                    {whole - 1, bits, count - 1, 0x02}};
         for (size_t which = 0; bits && which < COUNT(fillings); which++)
             damaged(count, fillings[which]);
         if (count == image)
             continue;
-        struct damage tails[] = {{whole, 0x80, 0, 0}, {count - 1, 0x01, 0, 0}, {(whole + count) / 2, 0x10, 0, 0}, {whole, 0x01, count - 1, 0x02},
-                                 {whole - 1, 0x01, whole, 0x80}, {0, 0x80, count - 1, 0x01}}; /* the last two with a wrong word or a filling bit */
+        struct damage tails[] = {{whole, 0x80, 0, 0}, {count - 1, 0x01, 0, 0}, {(whole + count) / 2, 0x10, 0, 0},
+                                 {whole, 0x01, count - 1, 0x02}, /* the others with a wrong word or a filling bit */
+                                 {whole - 1, 0x01, whole, 0x80}, {0, 0x80, count - 1, 0x01}};
         for (size_t which = 0; which < (few ? 2 : COUNT(tails)); which++)
             damaged(count, tails[which]);
     }
@@ -294,16 +302,17 @@ static void constants(void)
     CONSTANT(PLAIN_WORDS);
     CONSTANT(FULL_WORDS);
     for (uint32_t each = 1; each <= 12; each++)
-        printf("limits %" PRIu32 " %u %u %u %u %u\n", each, YILDEGGA_LAST_NODE(each), YILDEGGA_WORD_COUNT(each), YILDEGGA_WORD_BITS(each),
-               YILDEGGA_FULL_WORD_COUNT(each), YILDEGGA_FULL_WORD_BITS(each));
+        printf("limits %" PRIu32 " %u %u %u %u %u\n", each, YILDEGGA_LAST_NODE(each), YILDEGGA_WORD_COUNT(each),
+               YILDEGGA_WORD_BITS(each), YILDEGGA_FULL_WORD_COUNT(each), YILDEGGA_FULL_WORD_BITS(each));
 }
 
 /* The header's numbers of a table of any guard bits, and where k or a is none, the length alone. */
 static void lengths(void)
 {
-    size_t by_call = yildegga_image_length(format), by_old = form ? YILDEGGA_FULL_IMAGE_LENGTH(k) : YILDEGGA_IMAGE_LENGTH(k);
-    size_t by_macro = YILDEGGA_TABLE_IMAGE_LENGTH(k, form, a);
-    printf("length %" PRIu32 " %" PRIu32 " %" PRIu32 " %" PRIu32 " %zu %zu %zu\n", form, k, a, b, by_call, by_macro, by_old);
+    size_t by_call = yildegga_image_length(format), by_macro = YILDEGGA_TABLE_IMAGE_LENGTH(k, form, a);
+    size_t usual = form ? YILDEGGA_FULL_IMAGE_LENGTH(k) : YILDEGGA_IMAGE_LENGTH(k);
+    printf("length %" PRIu32 " %" PRIu32 " %" PRIu32 " %" PRIu32 " %zu %zu %zu\n", form, k, a, b, by_call, by_macro,
+           usual);
     if (by_macro)
         printf("words %" PRIu32 " %" PRIu32 " %" PRIu32 " %u %u\n", form, k, a, YILDEGGA_TABLE_WORD_COUNT(k, form),
                YILDEGGA_TABLE_WORD_BITS(k, form, a));
@@ -339,8 +348,8 @@ static void of_wrong_guard_bits(void)
     for (size_t each = 0; each < COUNT(as) * COUNT(bs); each++) {
         a = as[each / COUNT(bs)];
         b = bs[each % COUNT(bs)];
-        if (YILDEGGA_LEAST_TABLE_GUARD_BITS <= a && a <= YILDEGGA_GREATEST_TABLE_GUARD_BITS && YILDEGGA_LEAST_INPUT_GUARD_BITS <= b &&
-            b <= YILDEGGA_GREATEST_INPUT_GUARD_BITS)
+        if (YILDEGGA_LEAST_TABLE_GUARD_BITS <= a && a <= YILDEGGA_GREATEST_TABLE_GUARD_BITS &&
+            YILDEGGA_LEAST_INPUT_GUARD_BITS <= b && b <= YILDEGGA_GREATEST_INPUT_GUARD_BITS)
             continue;
         for (size_t which = 0; which < COUNT(ks); which++) {
             bool on_bytes = ks[which] < 3 && (a == 2 || b == 3 || a == b + 1);

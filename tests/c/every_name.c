@@ -1,6 +1,7 @@
-/* Uses every name of the header, in C and in C++, with all that a compiler warns of counting as an error. It ends with status 0
-   where the calls serve at precision 2 as document 01 has it, and an operand of one fraction bit, a full ROM of eight bytes, full
-   words and other guard bits too. */
+/* Uses every name of the header, in C and in C++, with all that a compiler warns of counting as an error. It ends with
+   status 0 where the calls serve the set examples of precision 2 (docs/SCOPE.md, "Set examples"), and an operand of one
+   fraction bit, a full ROM of eight bytes, full words and other guard bits too, and where the header has a version and
+   the refusals in words. */
 #include <yildegga.h>
 
 static uint8_t image[YILDEGGA_IMAGE_LENGTH(2)];
@@ -10,13 +11,15 @@ static const size_t lengths[] = {
 static const size_t right_lengths[] = {0, 1, YILDEGGA_LONGEST_IMAGE, 0, 0};
 static uint8_t full_image[YILDEGGA_FULL_IMAGE_LENGTH(2)];
 static const size_t full_lengths[] = {
-    YILDEGGA_FULL_IMAGE_LENGTH(0), YILDEGGA_FULL_IMAGE_LENGTH(1), YILDEGGA_FULL_IMAGE_LENGTH(YILDEGGA_GREATEST_PRECISION),
+    YILDEGGA_FULL_IMAGE_LENGTH(0), YILDEGGA_FULL_IMAGE_LENGTH(1),
+    YILDEGGA_FULL_IMAGE_LENGTH(YILDEGGA_GREATEST_PRECISION),
     YILDEGGA_FULL_IMAGE_LENGTH(13), YILDEGGA_FULL_IMAGE_LENGTH(4294967295u)};
 static const size_t right_full_lengths[] = {0, 3, YILDEGGA_FULL_LONGEST_IMAGE, 0, 0};
 static uint8_t guarded_image[YILDEGGA_TABLE_IMAGE_LENGTH(1, YILDEGGA_PLAIN_WORDS, 3)];
 static const size_t guarded_lengths[] = {
     YILDEGGA_TABLE_IMAGE_LENGTH(0, YILDEGGA_PLAIN_WORDS, 3), YILDEGGA_TABLE_IMAGE_LENGTH(13, YILDEGGA_FULL_WORDS, 3),
-    YILDEGGA_TABLE_IMAGE_LENGTH(4294967295u, YILDEGGA_FULL_WORDS, 3), YILDEGGA_TABLE_IMAGE_LENGTH(2, YILDEGGA_FULL_WORDS, 0),
+    YILDEGGA_TABLE_IMAGE_LENGTH(4294967295u, YILDEGGA_FULL_WORDS, 3),
+    YILDEGGA_TABLE_IMAGE_LENGTH(2, YILDEGGA_FULL_WORDS, 0),
     YILDEGGA_TABLE_IMAGE_LENGTH(2, YILDEGGA_FULL_WORDS, 1), YILDEGGA_TABLE_IMAGE_LENGTH(2, YILDEGGA_PLAIN_WORDS, 5),
     YILDEGGA_TABLE_IMAGE_LENGTH(2, YILDEGGA_PLAIN_WORDS, 4294967295u),
     YILDEGGA_TABLE_IMAGE_LENGTH(YILDEGGA_GREATEST_PRECISION, YILDEGGA_PLAIN_WORDS, YILDEGGA_LEAST_TABLE_GUARD_BITS),
@@ -24,6 +27,28 @@ static const size_t guarded_lengths[] = {
     YILDEGGA_TABLE_IMAGE_LENGTH(YILDEGGA_GREATEST_PRECISION, YILDEGGA_FULL_WORDS, YILDEGGA_GREATEST_TABLE_GUARD_BITS)};
 static const size_t right_guarded_lengths[] = {
     0, 0, 0, 0, 0, 0, 0, YILDEGGA_LONGEST_IMAGE, YILDEGGA_FULL_LONGEST_IMAGE, YILDEGGA_ANY_LONGEST_IMAGE};
+
+static int alike(const char *text, const char *other)
+{
+    while (*text && *text == *other) {
+        text++;
+        other++;
+    }
+    return *text == *other;
+}
+
+/* The version as a string is that of its numbers, of which each has one digit; refusals have texts of their own. */
+static int in_words(void)
+{
+    const char digits[] = {'0' + YILDEGGA_VERSION_MAJOR, '.', '0' + YILDEGGA_VERSION_MINOR, '.',
+                           '0' + YILDEGGA_VERSION_PATCH, 0};
+    if (!alike(YILDEGGA_VERSION, digits))
+        return 61;
+    const char *text = yildegga_refusal_text(YILDEGGA_GUARD_BITS);
+    if (!alike(text, "the table guard bits are not 2 to 4, or the input guard bits not 3 to 5"))
+        return 62;
+    return alike(text, yildegga_refusal_text(YILDEGGA_PRECISION)) ? 63 : 0;
+}
 
 static int place_has_a_meaning(uint32_t number)
 {
@@ -44,7 +69,7 @@ static int place_has_a_meaning(uint32_t number)
     }
 }
 
-/* Full words, at precisions 1 and 2 as document 02 has them. */
+/* Full words: the set examples of precisions 1 and 2. */
 static int full_words(void)
 {
     const uint8_t nodes[] = {0x80, 0x67, 0x56, 0x4A, 0x40}, image_of_1[] = {0x81, 0x64, 0x00};
@@ -54,8 +79,10 @@ static int full_words(void)
             return 21;
     if (format.precision != 2 || format.form != YILDEGGA_FULL_WORDS || YILDEGGA_PLAIN(2).form != YILDEGGA_PLAIN_WORDS)
         return 22;
-    if (yildegga_image_length(format) != sizeof full_image || YILDEGGA_FULL_WORD_COUNT(2) * YILDEGGA_FULL_WORD_BITS(2) != 8 * sizeof full_image)
+    if (yildegga_image_length(format) != sizeof full_image)
         return 23;
+    if (YILDEGGA_FULL_WORD_COUNT(2) * YILDEGGA_FULL_WORD_BITS(2) != 8 * sizeof full_image)
+        return 32;
     if (YILDEGGA_WORD_COUNT(2) * YILDEGGA_WORD_BITS(2) != 8 * sizeof image)
         return 24;
     if (yildegga_build(format, full_image, sizeof full_image).number != YILDEGGA_SERVED)
@@ -88,12 +115,16 @@ static int other_guard_bits(void)
             return 41;
     if (format.precision != 1 || format.form != 0 || format.table_guard_bits != 3 || format.input_guard_bits != 5)
         return 42;
-    if (plain.table_guard_bits != 2 || plain.input_guard_bits != 3 || full.table_guard_bits != 2 || full.input_guard_bits != 3)
+    if (plain.table_guard_bits != 2 || plain.input_guard_bits != 3)
         return 43;
+    if (full.table_guard_bits != 2 || full.input_guard_bits != 3)
+        return 54;
     if (YILDEGGA_TABLE_WORD_BITS(k, form, a) != 5 || YILDEGGA_TABLE_WORD_COUNT(k, form) != 2)
         return 44;
-    if (YILDEGGA_TABLE_WORD_BITS(k, YILDEGGA_FULL_WORDS, a) != 7 || YILDEGGA_TABLE_WORD_COUNT(k, YILDEGGA_FULL_WORDS) != 3)
+    if (YILDEGGA_TABLE_WORD_BITS(k, YILDEGGA_FULL_WORDS, a) != 7)
         return 45;
+    if (YILDEGGA_TABLE_WORD_COUNT(k, YILDEGGA_FULL_WORDS) != 3)
+        return 55;
     if (yildegga_image_length(format) != sizeof guarded_image)
         return 46;
     if (yildegga_build(format, guarded_image, sizeof guarded_image).number != YILDEGGA_SERVED)
@@ -103,7 +134,8 @@ static int other_guard_bits(void)
     yildegga_node_read node = yildegga_node(format, guarded_image, sizeof guarded_image, 1);
     if (node.value.count != 43)
         return 49;
-    yildegga_reciprocal_given given = yildegga_reciprocal(format, guarded_image, sizeof guarded_image, 1, 3); /* node 1 */
+    /* 3 / 2 is node 1 */
+    yildegga_reciprocal_given given = yildegga_reciprocal(format, guarded_image, sizeof guarded_image, 1, 3);
     if (given.value.count != node.value.count / YILDEGGA_TABLE_UNITS_IN_ULP(a))
         return 50;
     const uint32_t wrong_a = YILDEGGA_GREATEST_TABLE_GUARD_BITS + 1, wrong_b = YILDEGGA_LEAST_INPUT_GUARD_BITS - 1;
@@ -151,7 +183,8 @@ int main(void)
     yildegga_ulps ulps = given.value;
     if (ulps.count * YILDEGGA_TABLE_UNITS_IN_ULP(2) != 120)
         return 8;
-    given = yildegga_reciprocal(YILDEGGA_PLAIN(k), image, sizeof image, YILDEGGA_LEAST_FRACTION_BITS, 3); /* node 2, 86 table units */
+    /* 3 / 2 is node 2, 86 table units */
+    given = yildegga_reciprocal(YILDEGGA_PLAIN(k), image, sizeof image, YILDEGGA_LEAST_FRACTION_BITS, 3);
     if (given.value.count != 21)
         return 9;
     given = yildegga_reciprocal(YILDEGGA_PLAIN(k), image, sizeof image, YILDEGGA_MOST_FRACTION_BITS, UINT64_MAX);
@@ -171,6 +204,6 @@ int main(void)
     done = yildegga_check(YILDEGGA_PLAIN(k), rom, sizeof rom);
     if (done.number != YILDEGGA_TAIL_NOT_ZERO || place_has_a_meaning(done.number) != 1 || done.place != 7)
         return 13;
-    const int status = full_words();
-    return status ? status : other_guard_bits();
+    const int of_words = full_words(), of_guard_bits = other_guard_bits();
+    return of_words ? of_words : of_guard_bits ? of_guard_bits : in_words();
 }

@@ -1,7 +1,7 @@
-/* Lends bytes that end where the machine lets nothing be read or written: a call that touches one behind them is stopped. All is done in
-   both forms and with all guard bits. For the calls that take the image alone, the image ends there, and the buffer is said to go on; for
-   the builder and the check, which take the tail too, the buffer ends there. Where nothing is stopped, it prints how many calls answered as
-   they should, and how many there were. */
+/* Lends bytes that end where the machine lets nothing be read or written: a call that touches one behind them is
+   stopped. All is done in both forms and with all guard bits. For the calls that take the image alone, the image
+   ends there, and the buffer is said to go on; for the builder and the check, which take the tail too, the buffer
+   ends there. Where nothing is stopped, it prints how many calls answered as they should, and how many there were. */
 #define _DEFAULT_SOURCE /* mmap's MAP_ANONYMOUS */
 #include <stdbool.h>
 #include <stdio.h>
@@ -38,7 +38,8 @@ struct table { yildegga_format format; size_t image; uint32_t words; size_t bits
 static struct table table_of(uint32_t k, uint32_t form, uint32_t a, uint32_t b)
 {
     uint32_t words = YILDEGGA_TABLE_WORD_COUNT(k, form);
-    return (struct table){YILDEGGA_TABLE(k, form, a, b), YILDEGGA_TABLE_IMAGE_LENGTH(k, form, a), words, words * YILDEGGA_TABLE_WORD_BITS(k, form, a)};
+    return (struct table){YILDEGGA_TABLE(k, form, a, b), YILDEGGA_TABLE_IMAGE_LENGTH(k, form, a), words,
+                          words * YILDEGGA_TABLE_WORD_BITS(k, form, a)};
 }
 
 static bool checked(struct table table, const uint8_t *rom, size_t length, uint32_t number, uint64_t place)
@@ -95,7 +96,8 @@ static void image_alone(struct table table)
 
 static void all_of(struct table table)
 {
-    static const size_t tails[] = {0, 1, 2, 7, 8, 9, 15, 16, 17, 31, 32, 33, 63, 64, 65, 70, 127, 128, 129, 1000, 3 * PAGE};
+    static const size_t tails[] = {0, 1, 2, 7, 8, 9, 15, 16, 17, 31, 32, 33, 63, 64, 65, 70, 127, 128, 129, 1000,
+                                   3 * PAGE};
     for (size_t each = 0; each < COUNT(tails); each++)
         whole_buffer(table, tails[each]);
     image_alone(table);

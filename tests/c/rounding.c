@@ -1,10 +1,11 @@
-/* Makes the calls in each of the four rounding modes, in both forms, with all guard bits. The builder computes with doubles, and must leave the
-   same bytes in every mode; the other calls must answer as in the default one. No call changes the mode or another setting of the
-   arithmetic, and none raises a flag of the floating-point environment, but for the builder, which may raise inexact.
+/* Makes the calls in each of the four rounding modes, in both forms, with all guard bits. The builder computes with
+   doubles, and must leave the same bytes in every mode; the other calls must answer as in the default one. No call
+   changes the mode or another setting of the arithmetic, and none raises a flag of the floating-point environment,
+   but for the builder, which may raise inexact.
 
-   Standard input has the right images of precision 1 to 12 in a row, with 2 table guard bits, with 3 and with 4, first the plain ones, then
-   the full ones. At the first call that is not as it should be, the program says which it is and ends with status 1; where there is none,
-   it prints how many calls were made. */
+   Standard input has the right images of precision 1 to 12 in a row, with 2 table guard bits, with 3 and with 4,
+   first the plain ones, then the full ones. At the first call that is not as it should be, the program says which it
+   is and ends with status 1; where there is none, it prints how many calls were made. */
 #include <fenv.h>
 #include <inttypes.h>
 #include <stdbool.h>
@@ -39,8 +40,8 @@ static void see(bool as_it_should, const char *call, const char *what)
 {
     if (as_it_should)
         return;
-    fprintf(stderr, "precision %" PRIu32 "%s, guard bits %" PRIu32 " and %" PRIu32 ", rounding %s: %s %s\n", k, form ? ", full words" : "", a, b,
-            modes[mode].name, call, what);
+    fprintf(stderr, "precision %" PRIu32 "%s, guard bits %" PRIu32 " and %" PRIu32 ", rounding %s: %s %s\n", k,
+            form ? ", full words" : "", a, b, modes[mode].name, call, what);
     exit(1);
 }
 
@@ -55,7 +56,8 @@ static void leave(const char *call, int may_be_raised)
 {
     see(fetestexcept(FE_ALL_EXCEPT & ~may_be_raised) == 0, call, "raises a flag");
     /* fegetround looks at the older unit alone, and doubles are computed in the SSE unit */
-    see(fegetround() == modes[mode].mode && (_mm_getcsr() & ~FLAGS) == settings, call, "changes the rounding mode or another setting");
+    see(fegetround() == modes[mode].mode && (_mm_getcsr() & ~FLAGS) == settings, call,
+        "changes the rounding mode or another setting");
 }
 
 /* ---- the calls */
@@ -71,10 +73,12 @@ static void same(const char *call, uint32_t number, uint64_t place, uint64_t val
     yildegga_done *first = &by_default[answered++];
     if (mode == 0)
         *first = (yildegga_done){number, place, value};
-    see(first->number == number && first->place == place && first->value == value, call, "answers otherwise than by default");
+    see(first->number == number && first->place == place && first->value == value, call,
+        "answers otherwise than by default");
 }
 
-/* The builder leaves the right image and zeros to the buffer's end, or where it is turned back what it found, and the guards in any case. */
+/* The builder leaves the right image and zeros to the buffer's end, or where it is turned back what it found, and
+   the guards in any case. */
 static void build(yildegga_format asked, size_t length, uint32_t number)
 {
     memset(block, FOUND, sizeof block);
@@ -140,7 +144,8 @@ static size_t image_length(void)
     return length;
 }
 
-/* ---- the cases of a format in a mode: 4 calls for each node below the last, and 24 others, 26 where there are filling bits */
+/* ---- the cases of a format in a mode: 4 calls for each node below the last, and 24 others, 26 where there are
+   filling bits */
 
 static void flip(size_t bit)
 {
@@ -168,7 +173,8 @@ static void cases(void)
         node(image, j);
         word_bytes(image, j);
         reciprocal(image, k, last + j);
-        reciprocal(image, 63, at + UINT64_C(0x5555555555555555) % (UINT64_C(1) << (63 - k))); /* between this node and the next */
+        /* between this node and the next */
+        reciprocal(image, 63, at + UINT64_C(0x5555555555555555) % (UINT64_C(1) << (63 - k)));
     }
     node(image, last);
     node(image, last + 1);
@@ -206,7 +212,8 @@ static void in_modes(void)
     fesetround(modes[0].mode);
 }
 
-/* All formats: the images in the order of the input, with each number of input guard bits. False where it does not hold the images. */
+/* All formats: the images in the order of the input, with each number of input guard bits. False where it does not
+   hold the images. */
 static bool formats(void)
 {
     for (form = YILDEGGA_PLAIN_WORDS; form <= YILDEGGA_FULL_WORDS; form++)

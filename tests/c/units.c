@@ -1,5 +1,5 @@
-/* A function that takes ulps is given a node's value or a reciprocal's: compiled with -DGIVEN=reciprocal it must be taken, and with
-   -DGIVEN=node it must be refused. */
+/* A function that takes ulps is given a node's value or a reciprocal's: compiled with -DGIVEN=reciprocal it must be
+   taken, and with -DGIVEN=node it must be refused. */
 #include <yildegga.h>
 
 uint64_t twice(yildegga_ulps ulps);

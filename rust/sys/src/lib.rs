@@ -1,20 +1,21 @@
-//! The declarations of `libyildegga.a`, each as a safe function over slices. The crate `yildegga` is the one to use; this is the
-//! one file with unsafe code.
+//! The declarations of `libyildegga.a`, each as a safe function over slices. The crate `yildegga` is the one to use;
+//! this is the one file with unsafe code.
 //!
 //! # Why each call is sound
 //!
-//! The functions of the archive are proved to keep within the slice that they are lent, at every argument. The proof takes this of
-//! a slice, and a Rust slice has it:
+//! The functions of the archive are proved to keep within the slice that they are lent, at every argument. The proof
+//! takes this of a slice, and a Rust slice has it:
 //!
-//! - Pointer and length belong together: the bytes may be read, and for [`build`] written, until the call returns. Each function
-//!   below passes the pointer and the length of one slice, whose borrow outlives the call.
-//! - Nobody else writes to bytes that are lent for reading, and nobody else touches those lent for writing: `&[u8]` and `&mut [u8]`
-//!   say so.
-//! - The pointer of an empty slice, which Rust leaves dangling, is never followed: every image has a byte or more, so an empty slice
-//!   is turned back before any byte is read.
+//! - Pointer and length belong together: the bytes may be read, and for [`build`] written, until the call returns. Each
+//!   function below passes the pointer and the length of one slice, whose borrow outlives the call.
+//! - Nobody else writes to bytes that are lent for reading, and nobody else touches those lent for writing: `&[u8]` and
+//!   `&mut [u8]` say so.
+//! - The pointer of an empty slice, which Rust leaves dangling, is never followed: every image has a byte or more, so
+//!   an empty slice is turned back before any byte is read.
 //!
-//! The functions keep no pointer, have no state, call nothing outside the archive but the C library's `memset`, and do not unwind; bytes
-//! are answered as numbers. They leave the rounding mode, and raise no flag of the floating-point environment but inexact, which [`build`] may raise.
+//! The functions keep no pointer, have no state, call nothing outside the archive but the C library's `memset`, and do
+//! not unwind; bytes are answered as numbers. They leave the rounding mode, and raise no flag of the floating-point
+//! environment but inexact, which [`build`] may raise.
 #![deny(missing_docs)]
 #![deny(clippy::undocumented_unsafe_blocks)]
 
@@ -46,7 +47,8 @@ pub const FULL_WORDS: u32 = 1;
 pub struct Answer {
     /// 0 where the call is served, else the number of the refusal.
     pub number: u32,
-    /// The lowest node whose word is wrong in refusal 6, the lowest byte with a set bit behind the last word in refusal 7, else 0.
+    /// The lowest node whose word is wrong in refusal 6, the lowest byte with a set bit behind the last word in refusal
+    /// 7, else 0.
     pub place: u64,
     /// The node in table units, the reciprocal in ulps, or 0.
     pub value: u64,

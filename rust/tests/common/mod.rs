@@ -3,8 +3,8 @@
 
 use yildegga::{Form, Format, Refused, Ulps};
 
-/// The byte lengths of the plain images with two table guard bits, as document 01 lists them, and with three and four: 2^k × (2k + a) / 8,
-/// rounded up.
+/// The byte lengths of the plain images with two table guard bits, as docs/SCOPE.md lists them, and with three and
+/// four: 2^k × (2k + a) / 8, rounded up.
 const PLAIN_LENGTHS: [[usize; 12]; 3] = [
     [1, 3, 8, 20, 48, 112, 256, 576, 1280, 2816, 6144, 13312],
     [2, 4, 9, 22, 52, 120, 272, 608, 1344, 2944, 6400, 13824],
@@ -42,6 +42,7 @@ pub fn length(format: Format) -> usize {
     let lengths = match format.form() {
         Form::Plain => PLAIN_LENGTHS,
         Form::Full => FULL_LENGTHS,
+        other => panic!("the form {other:?} has no lengths here"),
     };
     lengths[format.table_guard_bits() as usize - 2][format.precision() as usize - 1]
 }
@@ -77,7 +78,8 @@ pub fn value(format: Format, j: u32) -> u64 {
     (1u64 << (3 * k + format.table_guard_bits() + 1)).div_ceil((1 << k) + u64::from(j))
 }
 
-/// R by the steps of document 01, for an operand that keeps its limits: it is cut to as many fraction bits as are looked at, or padded to them.
+/// R by the rule of docs/SCOPE.md, "The reciprocal", for an operand that keeps its limits: it is cut to as many
+/// fraction bits as are looked at, or padded to them.
 pub fn rule(format: Format, n: u32, x: u64) -> Ulps {
     let (k, kept) = (format.precision(), kept(format));
     let t = if n < kept { x << (kept - n) } else { x >> (n - kept) };

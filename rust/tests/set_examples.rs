@@ -1,5 +1,5 @@
-//! The set examples of document 01, its cases at the limits as Q-1 of document 02 has them, the full ROMs of Q-2, and the errors that
-//! the tables invite. All of it in plain words.
+//! The set examples of docs/SCOPE.md in plain words: nodes, images and reciprocals, the cases at the limits, full ROMs,
+//! and the errors that the tables invite.
 #![forbid(unsafe_code)]
 
 mod common;
