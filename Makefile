@@ -1,10 +1,18 @@
-# The library for C and C++. It stands on the Rattle kit (`rt`) and a C compiler.
+# The library for C and C++. It stands on the Rattle kit (`rt`) and a C compiler. Beside each target stands how long it
+# takes; what is proved on a machine once is kept there, and is not proved again.
 #
 #   make                         prove and build the archive, target/staticlib/libyildegga.a
-#   make install PREFIX=FOLDER   header, archive and pkg-config file (/usr/local; DESTDIR, INCLUDEDIR and LIBDIR are as elsewhere)
-#   make uninstall PREFIX=FOLDER take them away
-#   make examples                build c/examples into target/examples
-#   make clean                   remove the archive and the examples; the proofs stay
+#                                (minutes, many of them, the first time; then some seconds)
+#   make install PREFIX=FOLDER   header, archive and pkg-config file (/usr/local; DESTDIR, INCLUDEDIR and LIBDIR are as
+#                                elsewhere; a second once the archive is there)
+#   make uninstall PREFIX=FOLDER take them away (no time)
+#   make examples                build c/examples into target/examples (a second once the archive is there)
+#   make clean                   remove the archive and the examples; the proofs stay (no time)
+#   make quick                   prove the crates that changed against the last commit, and run the tests that need no
+#                                build: of the layout, the documents, the pages of theorems and what edits say
+#                                (some seconds, and what the changed crates take: seconds to minutes for each)
+#   make check                   the gate, .ci/run: all proofs, all must-fail edits, all programs and all tests
+#                                (minutes, many of them, the longer the more has changed)
 
 PREFIX = /usr/local
 INCLUDEDIR = $(PREFIX)/include
@@ -33,8 +41,8 @@ $(ARCHIVE): $(PROVED)
 install: $(ARCHIVE)
 	install -D -m 644 c/include/yildegga.h '$(HEADER_THERE)'
 	install -D -m 644 $(ARCHIVE) '$(ARCHIVE_THERE)'
-	sed -e 's|@PREFIX@|$(abspath $(PREFIX))|' -e 's|@INCLUDEDIR@|$(abspath $(INCLUDEDIR))|' -e 's|@LIBDIR@|$(abspath $(LIBDIR))|' \
-	    c/yildegga.pc.in | install -D -m 644 /dev/stdin '$(PC_THERE)'
+	sed -e 's|@PREFIX@|$(abspath $(PREFIX))|' -e 's|@INCLUDEDIR@|$(abspath $(INCLUDEDIR))|' \
+	    -e 's|@LIBDIR@|$(abspath $(LIBDIR))|' c/yildegga.pc.in | install -D -m 644 /dev/stdin '$(PC_THERE)'
 
 uninstall:
 	rm -f '$(HEADER_THERE)' '$(ARCHIVE_THERE)' '$(PC_THERE)'
@@ -48,4 +56,24 @@ target/examples/%: c/examples/%.c c/examples/caller.h c/include/yildegga.h $(ARC
 clean:
 	rm -rf target/examples $(ARCHIVE)
 
-.PHONY: archive install uninstall examples clean
+# The crates whose files, or whose lines in crates.txt, are changed or new against the last commit, in its order.
+quick:
+	@mkdir -p target; failed=0; \
+	python3 tests/run.py repository: edits: documents: pages: || failed=1; \
+	changed=$$({ git diff --name-only HEAD -- crates; git ls-files --others --exclude-standard -- crates; } | \
+	        sed -n -E 's,^crates/([^/]+)/(src|specs|proofs)/.*,\1,p'; \
+	    git diff -U0 HEAD -- crates.txt | sed -n -E 's/^\+([a-z]\w*)[^#]*:.*/\1/p'); \
+	for crate in $$(sed -n -E 's/^([a-z]\w*)[^#]*:.*/\1/p' crates.txt); do \
+	    case " $$(echo $$changed) " in *" $$crate "*) ;; *) continue;; esac; \
+	    if (cd crates/$$crate && rt check) </dev/null >target/quick.log 2>&1; then \
+	        echo "ok    rt check: $$crate"; \
+	    else \
+	        cat target/quick.log; echo "FAIL  rt check: $$crate"; failed=1; \
+	    fi; \
+	done; \
+	exit $$failed
+
+check:
+	.ci/run
+
+.PHONY: archive install uninstall examples clean quick check

@@ -4,12 +4,12 @@
           measure K          the same for each choice of guard bits at precision K
           measure sweep K    the nodes of precision K, then each cut operand with its R, with 2 and 3 guard bits
 
-   With a table guard bits and b input guard bits a cut operand t has n = 2k + b fraction bits and stands for every operand X with t <= X < t + 1, on the
-   scale of t. All of them have the same R. The exact reciprocal is N / X ulps, where N = 2^(4k+b+1), so that the error R - N / X grows from X = t up to
-   X = t + 1.
+   With a table guard bits and b input guard bits a cut operand t has n = 2k + b fraction bits and stands for every
+   operand X with t <= X < t + 1, on the scale of t. All of them have the same R. The exact reciprocal is N / X ulps,
+   where N = 2^(4k+b+1), so that the error R - N / X grows from X = t up to X = t + 1.
 
-   A step of d is R of t less R of t + d, where both are cut operands. Steps are proved to lie from 0 to d / 2^(b-1), rounded up; where one does not, the
-   program stops. */
+   A step of d is R of t less R of t + d, where both are cut operands. Steps are proved to lie from 0 to d / 2^(b-1),
+   rounded up; where one does not, the program stops. */
 #include <inttypes.h>
 #include <stdio.h>
 #include <stdlib.h>
@@ -54,14 +54,18 @@ static void keep(error *largest, int64_t over, int64_t under)
         *largest = (error){over, under};
 }
 
-/* The steps of d that were found: the largest, the first t with it, and the least. There is none where the largest is below 0. */
+/* The steps of d that were found: the largest, the first t with it, and the least. There is none where the largest is
+   below 0. */
 typedef struct { uint64_t d, limit, at; int32_t largest, least; } steps;
 
-static const uint64_t distances[] = {1, 2, 3, 4, 5, 6, 7, 8, 9, 16, 100}; /* the d that are measured, beside that of a whole piece, 2^(k+b) */
+/* The d that are measured, beside that of a whole piece, 2^(k+b). */
+static const uint64_t distances[] = {1, 2, 3, 4, 5, 6, 7, 8, 9, 16, 100};
 #define DISTANCES (sizeof distances / sizeof *distances + 1)
 
 #define BLOCK (UINT64_C(1) << (YILDEGGA_GREATEST_PRECISION + YILDEGGA_GREATEST_INPUT_GUARD_BITS)) /* no d is larger */
-static int32_t block[2 * BLOCK]; /* R, which is at most 2^25, of BLOCK cut operands in a row, behind R of those before them */
+
+/* R, which is at most 2^25, of BLOCK cut operands in a row, behind R of those before them. */
+static int32_t block[2 * BLOCK];
 
 static void no_steps(steps found[DISTANCES], yildegga_format table)
 {

@@ -14,15 +14,18 @@ from archives import archive  # noqa: E402
 PROGRAM = ROOT / "target" / "accuracy" / "measure"
 PARTS = 2 ** 32  # lengths are printed in these parts of the distance from one cut operand to the next
 
-# What is measured of a table. An error is (over, under): over / under ulps, found at X = under with 2k + b fraction bits. Of steps there is a list.
+# What is measured of a table. An error is (over, under): over / under ulps, found at X = under with 2k + b fraction
+# bits. Of steps there is a list.
 Measured = namedtuple("Measured", "k a b operands sum below above limit exact nearest length edges steps")
 
-# The steps of d: the largest, the first t with it, and the least. All three are None where no two cut operands lie so far apart.
+# The steps of d: the largest, the first t with it, and the least. All three are None where no two cut operands lie so
+# far apart.
 Steps = namedtuple("Steps", "d largest at least")
 
 
 def command(*words):
-    done = subprocess.run(words, cwd=ROOT, stdin=subprocess.DEVNULL, stdout=subprocess.PIPE, stderr=subprocess.STDOUT, text=True)
+    done = subprocess.run(words, cwd=ROOT, stdin=subprocess.DEVNULL, stdout=subprocess.PIPE, stderr=subprocess.STDOUT,
+                          text=True)
     assert done.returncode == 0, f"{words[0]} ended with status {done.returncode}: {done.stdout[-400:]}"
 
 
@@ -30,7 +33,8 @@ def command(*words):
 def program():
     """The measuring program, built now."""
     PROGRAM.parent.mkdir(parents=True, exist_ok=True)
-    command("gcc", "-std=c11", "-O2", "-Wall", "-Wextra", "-Wpedantic", "-Werror", "-Ic/include", "-o", PROGRAM, "accuracy/measure.c", archive())
+    command("gcc", "-std=c11", "-O2", "-Wall", "-Wextra", "-Wpedantic", "-Werror", "-Ic/include", "-o", PROGRAM,
+            "accuracy/measure.c", archive())
     return PROGRAM
 
 
@@ -43,13 +47,15 @@ def lines(*words):
 def figure(text):
     """A whole number, the pair of an error, or a list of Steps."""
     if "," in text:
-        return [Steps(*map(int, one.split("/"))) if "none" not in one else Steps(int(one.split("/")[0]), None, None, None) for one in text.split(",")]
+        return [Steps(int(one.split("/")[0]), None, None, None) if "none" in one else Steps(*map(int, one.split("/")))
+                for one in text.split(",")]
     return tuple(map(int, text.split("/"))) if "/" in text else int(text)
 
 
 @functools.cache
 def measured(*words):
-    """A Measured for each precision, over all its cut operands, with 2 and 3 guard bits; where a precision is named, for each choice of them at it."""
+    """A Measured for each precision, over all its cut operands, with 2 and 3 guard bits; where a precision is named,
+    for each choice of them at it."""
     names, *rows = lines(*map(str, words))
     assert tuple(names) == Measured._fields, f"the columns are {names}"
     return [Measured(*map(figure, row)) for row in rows]

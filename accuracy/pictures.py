@@ -17,7 +17,8 @@ class Plot:
         self.x = x
         self.panel(y, 60, height - 120)
         self.parts = [
-            f'<svg xmlns="http://www.w3.org/2000/svg" viewBox="0 0 {self.WIDTH} {height}" width="{self.WIDTH}" height="{height}"'
+            f'<svg xmlns="http://www.w3.org/2000/svg" viewBox="0 0 {self.WIDTH} {height}"'
+            f' width="{self.WIDTH}" height="{height}"'
             ' font-family="DejaVu Sans, Verdana, Arial, sans-serif" font-size="16">',
             f"<title>{title}</title>",
             f'<rect width="{self.WIDTH}" height="{height}" fill="#ffffff"/>']
@@ -33,7 +34,8 @@ class Plot:
         return self.LEFT + across * (self.RIGHT - self.LEFT), self.bottom - up * (self.bottom - self.top)
 
     def text(self, left, top, words, anchor="middle", color=INK, size=16, turn=""):
-        self.parts.append(f'<text x="{left:.2f}" y="{top:.2f}" text-anchor="{anchor}" fill="{color}" font-size="{size}"{turn}>{words}</text>')
+        self.parts.append(f'<text x="{left:.2f}" y="{top:.2f}" text-anchor="{anchor}" fill="{color}"'
+                          f' font-size="{size}"{turn}>{words}</text>')
 
     def line(self, points, color, width, dashes=""):
         joined = " ".join("{:.2f},{:.2f}".format(*self.place(x, y)) for x, y in points)
@@ -42,12 +44,14 @@ class Plot:
 
     def dot(self, x, y, color, fill, radius=5.5):
         left, top = self.place(x, y)
-        self.parts.append(f'<circle cx="{left:.2f}" cy="{top:.2f}" r="{radius}" fill="{fill}" stroke="{color}" stroke-width="2"/>')
+        self.parts.append(f'<circle cx="{left:.2f}" cy="{top:.2f}" r="{radius}" fill="{fill}" stroke="{color}"'
+                          ' stroke-width="2"/>')
 
     def label(self, x, y, down, words, color):
         """A figure above or below a point, on white, so that no line runs through it."""
         left, top = self.place(x, y)
-        self.parts.append(f'<rect x="{left - 24:.2f}" y="{top + down - 12:.2f}" width="48" height="15" fill="#ffffff"/>')
+        self.parts.append(f'<rect x="{left - 24:.2f}" y="{top + down - 12:.2f}" width="48" height="15"'
+                          ' fill="#ffffff"/>')
         self.text(left, top + down, words, color=color, size=14)
 
     def level(self, y, color, width, dashes=""):
@@ -70,9 +74,11 @@ class Plot:
         """An entry of the legend: a dot where it has a fill, else a line."""
         left, top = self.LEFT + column, self.bottom + 82 + 26 * row
         if fill:
-            self.parts.append(f'<circle cx="{left + 16}" cy="{top - 5}" r="5.5" fill="{fill}" stroke="{color}" stroke-width="2"/>')
+            self.parts.append(f'<circle cx="{left + 16}" cy="{top - 5}" r="5.5" fill="{fill}" stroke="{color}"'
+                              ' stroke-width="2"/>')
         else:
-            self.parts.append(f'<line x1="{left}" y1="{top - 5}" x2="{left + 32}" y2="{top - 5}" stroke="{color}" stroke-width="3"'
+            self.parts.append(f'<line x1="{left}" y1="{top - 5}" x2="{left + 32}" y2="{top - 5}" stroke="{color}"'
+                              ' stroke-width="3"'
                               + (f' stroke-dasharray="{dashes}"' if dashes else "") + "/>")
         self.text(left + 42, top, words, "start")
 
@@ -142,7 +148,7 @@ def error_picture(k):
 
 
 def shares_picture():
-    """The share of nearest results at each precision, beside document 002's figures."""
+    """The share of nearest results at each precision, beside the paper's figures."""
     plot = Plot("Share of nearest results", (0.5, 12.5), (70, 96))
     for y in range(70, 96, 5):
         plot.level(y, PALE, 1)
@@ -161,13 +167,13 @@ def shares_picture():
     plot.names("precision k", "nearest results")
     plot.sample(0, 0, "measured, of all operands", BLUE, BLUE)
     plot.sample(0, 1, "measured, of cut operands alone", GREY, "#ffffff")
-    plot.sample(400, 0, "document 002: around 80%, for k = 4 to 12", ORANGE, dashes="9 5")
-    plot.sample(400, 1, "document 002, Table 4: with compensation", ORANGE, "#ffffff")
+    plot.sample(400, 0, "the paper: around 80%, for k = 4 to 12", ORANGE, dashes="9 5")
+    plot.sample(400, 1, "the paper, Table 4: with compensation", ORANGE, "#ffffff")
     return plot.svg()
 
 
 def guard_bits_picture(k):
-    """The errors and the share of nearest results by guard bits, beside document 002's figures."""
+    """The errors and the share of nearest results by guard bits, beside the paper's figures."""
     rows = measuring.measured(k)
     across = {(row.a, row.b): 4 * row.a + row.b for row in rows}  # the choices with the same a side by side
     labels = [(x, f"{a}, {b}") for (a, b), x in across.items()]
@@ -207,13 +213,13 @@ def guard_bits_picture(k):
     plot.sample(484, 0, "the mean", BLUE, "#ffffff")
     plot.sample(640, 0, "the proved bound", INK, dashes="9 5")
     plot.sample(0, 1, "nearest, measured, of all operands", BLUE, BLUE)
-    plot.sample(400, 1, "document 002, Table 4: with compensation", ORANGE, "#ffffff")
+    plot.sample(400, 1, "the paper, Table 4: with compensation", ORANGE, "#ffffff")
     return plot.svg()
 
 
 def staircase_picture(k, inside, across):
-    """R over the first two pieces, the exact reciprocal and the lines between the nodes. Of two pairs t, t + d one lies inside a piece and one across
-    the node."""
+    """R over the first two pieces, the exact reciprocal and the lines between the nodes. Of two pairs t, t + d one lies
+    inside a piece and one across the node."""
     nodes, points = measuring.sweep(k)
     given = dict(points)
     piece = 2 ** (k + 3)
@@ -227,7 +233,8 @@ def staircase_picture(k, inside, across):
     plot.line([(node, low), (node, high)], GREY, 1.5, "2 4")
     plot.line([(t, start * given[start] / t) for t in between(start, end, 256)], ORANGE, 1.5)
     plot.line([(start + j * piece, nodes[j] / 4) for j in range(3)], GREEN, 1.5, "6 4")  # four table units are an ulp
-    plot.line([(t, ulps) for first, last, ulps in runs(points) if first < end for t in (first, min(last + 1, end))], BLUE, 2.5)
+    plot.line([(t, ulps) for first, last, ulps in runs(points) if first < end for t in (first, min(last + 1, end))],
+              BLUE, 2.5)
     for j in range(3):
         plot.dot(start + j * piece, nodes[j] / 4, GREEN, "#ffffff")
     for t, d, where in ((*inside, "inside a piece"), (*across, "across the node")):
@@ -252,5 +259,6 @@ def staircase_picture(k, inside, across):
 
 def pictures():
     """Each picture by its name."""
-    return {"error-k2.svg": error_picture(2), "shares.svg": shares_picture(), "guard-bits.svg": guard_bits_picture(page.GUARDED),
+    return {"error-k2.svg": error_picture(2), "shares.svg": shares_picture(),
+            "guard-bits.svg": guard_bits_picture(page.GUARDED),
             "staircase-k3.svg": staircase_picture(3, (512, 5), (571, 6))}

@@ -1,5 +1,6 @@
-// Whether all that is timed gives the library's answers, in both forms and with all guard bits, on images whole and damaged, on filling bits and tails, on
-// operands and on refusals. General C takes part everywhere, and what knows no guard bits but 2 and 3 where they are these.
+// Whether all that is timed gives the library's answers, in both forms and with all guard bits, on images whole and
+// damaged, on filling bits and tails, on operands and on refusals. General C takes part everywhere, and what knows no
+// guard bits but 2 and 3 where they are these.
 #include "given.h"
 #include "library.h"
 #include "otherwise.h"
@@ -183,7 +184,8 @@ static void builders(uint32_t k)
     }
 }
 
-// The check on tails: of zeros, with one byte changed, with another one too, and with a wrong word as well; and the tail read alone.
+// The check on tails: of zeros, with one byte changed, with another one too, and with a wrong word as well; and the
+// tail read alone.
 static void tails(uint32_t k)
 {
     static uint8_t rom[YILDEGGA_ANY_LONGEST_IMAGE + TAIL];
@@ -208,7 +210,8 @@ static void tails(uint32_t k)
     }
 }
 
-// The calls where bits behind the last word are set in its byte, each alone and with all that follow it there, and then in the tail too.
+// The calls where bits behind the last word are set in its byte, each alone and with all that follow it there, and then
+// in the tail too.
 static void filled(uint32_t k)
 {
     static uint8_t rom[YILDEGGA_ANY_LONGEST_IMAGE + 1];
@@ -243,7 +246,8 @@ static void damaged(uint32_t k, bool checked)
     for (uint32_t near = j == 0 ? 0 : j - 1; near <= j + 1 && near < count; near++) {
         node(k, image, length, near);
         reciprocal(k, image, length, 2 * k + b, (uint64_t)(count + near) << (k + b) | drawn() >> (64 - k - b));
-        uint32_t more = (uint32_t)(drawn() % (k + b)); // a short operand: at the node, or with up to k + b - 1 bits of f
+        // A short operand: at the node, or with up to k + b - 1 bits of f.
+        uint32_t more = (uint32_t)(drawn() % (k + b));
         reciprocal(k, image, length, k + more, (uint64_t)(count + near) << more | drawn() >> 1 >> (63 - more));
     }
     node(k, image, length, count);

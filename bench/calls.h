@@ -1,6 +1,7 @@
-// The calls that are compared: one interface under several prefixes. For two table guard bits and three input guard bits it takes a precision and has the
-// calls once for each form; for any guard bits it takes a format, as the library does. An answer has the 24 bytes of the library's own structs. The
-// library's calls are under these prefixes in library.h.
+// The calls that are compared: one interface under several prefixes. For two table guard bits and three input guard
+// bits it takes a precision and has the calls once for each form; for any guard bits it takes a format, as the library
+// does. An answer has the 24 bytes of the library's own structs. The library's calls are under these prefixes in
+// library.h.
 #ifndef CALLS_H
 #define CALLS_H
 #include <stddef.h>

@@ -1,6 +1,6 @@
-// The library's algorithm with the library's checks, written for speed: both neighbours of a piece come from one reading of 8 bytes,
-// which holds them, since two words and the up to 7 bits before them make at most 59 bits. The tail is read 8 bytes at a time, and written by
-// memset.
+// The library's algorithm with the library's checks, written for speed: both neighbours of a piece come from one
+// reading of 8 bytes, which holds them, since two words and the up to 7 bits before them make at most 59 bits. The tail
+// is read 8 bytes at a time, and written by memset.
 #include "calls.h"
 #include "reading.h"
 #include "writing.h"
@@ -10,7 +10,8 @@ static inline answer refused(uint32_t number)
     return (answer){number, 0, 0};
 }
 
-// A division of whole numbers for each node: a fixed measure. The library guesses by doubles, as `judged_build` in otherwise.c does.
+// A division of whole numbers for each node: a fixed measure. The library guesses by doubles, as `judged_build` in
+// otherwise.c does.
 answer CALL(build)(uint32_t k, uint8_t *image, size_t length)
 {
     if (11 < k - 1)
@@ -26,7 +27,8 @@ answer CALL(build)(uint32_t k, uint8_t *image, size_t length)
     return (answer){0, 0, 0};
 }
 
-// Two words in each reading, judged by one branch; word by word at the front, where 8 bytes are no longer there, and from a wrong pair on.
+// Two words in each reading, judged by one branch; word by word at the front, where 8 bytes are no longer there, and
+// from a wrong pair on.
 answer CALL(check)(uint32_t k, const uint8_t *image, size_t length)
 {
     if (11 < k - 1)
@@ -70,9 +72,9 @@ answer CALL(node)(uint32_t k, const uint8_t *image, size_t length, uint32_t j)
     return (answer){0, 0, c};
 }
 
-// The operand's fraction is shifted to the top, and its leading one out: the first k bits are the node number, the k + 3 after them are f,
-// and a short operand has zeros there. Past the last word bits_from gives zeros, and the leading one alone is the value of node 2^k: its
-// piece needs no case of its own.
+// The operand's fraction is shifted to the top, and its leading one out: the first k bits are the node number, the k +
+// 3 after them are f, and a short operand has zeros there. Past the last word bits_from gives zeros, and the leading
+// one alone is the value of node 2^k: its piece needs no case of its own.
 answer CALL(reciprocal)(uint32_t k, const uint8_t *image, size_t length, uint32_t n, uint64_t x)
 {
     if (11 < k - 1)
@@ -95,9 +97,11 @@ answer CALL(reciprocal)(uint32_t k, const uint8_t *image, size_t length, uint32_
     return (answer){0, 0, (lower * (8 * count) - (lower - upper) * f) >> (k + 5)};
 }
 
-// ---- full words: the node itself, 28 bits at most, so that two of them and the up to 7 bits before them still are in one reading of 8 bytes
+// ---- full words: the node itself, 28 bits at most, so that two of them and the up to 7 bits before them still are in
+// one reading of 8 bytes
 
-// No word is one that stands for another number, and none is implied: each is judged as it is. The last byte is completed by a word of zeros.
+// No word is one that stands for another number, and none is implied: each is judged as it is. The last byte is
+// completed by a word of zeros.
 answer CALL(full_build)(uint32_t k, uint8_t *image, size_t length)
 {
     if (11 < k - 1)
@@ -114,8 +118,9 @@ answer CALL(full_build)(uint32_t k, uint8_t *image, size_t length)
     return (answer){0, 0, 0};
 }
 
-// Two words in each reading from the first on. Near the end 8 bytes are no longer there, and the loop is left before the last word, so that no
-// pair holds bits that are no word's. Then what follows the last word in its byte is looked at, and the tail.
+// Two words in each reading from the first on. Near the end 8 bytes are no longer there, and the loop is left before
+// the last word, so that no pair holds bits that are no word's. Then what follows the last word in its byte is looked
+// at, and the tail.
 answer CALL(full_check)(uint32_t k, const uint8_t *image, size_t length)
 {
     if (11 < k - 1)

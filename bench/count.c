@@ -1,6 +1,7 @@
-// Calls each contestant a number of times, for callgrind to count their instructions: count FORM A B CALL K N CALLS LENGTH, of a table of A table guard
-// bits and B input guard bits, on operands of N fraction bits, on a buffer of LENGTH bytes, or of the image's length where that is longer. General
-// C takes part with other guard bits than 2 and 3, and the other C with these.
+// Calls each contestant a number of times, for callgrind to count their instructions: count FORM A B CALL K N CALLS
+// LENGTH, of a table of A table guard bits and B input guard bits, on operands of N fraction bits, on a buffer of
+// LENGTH bytes, or of the image's length where that is longer. General C takes part with other guard bits than 2 and 3,
+// and the other C with these.
 #include "given.h"
 #include "library.h"
 #include <stdbool.h>

@@ -1,6 +1,7 @@
-// The same algorithm with the same checks for every table: precision, form and guard bits come at run time, in the struct in which the library takes
-// them. Check, node and reciprocal have code for either form. A word has up to 30 bits, and two of them up to 60: two of 29 or 30 bits do not
-// always lie in one reading of 8 bytes, since bits of another word may stand before them.
+// The same algorithm with the same checks for every table: precision, form and guard bits come at run time, in the
+// struct in which the library takes them. Check, node and reciprocal have code for either form. A word has up to 30
+// bits, and two of them up to 60: two of 29 or 30 bits do not always lie in one reading of 8 bytes, since bits of
+// another word may stand before them.
 #define GENERAL
 #include "calls.h"
 #include "reading.h"
@@ -23,9 +24,10 @@ static inline answer refused(uint32_t number)
 // What is inlined once for each form, of which it then knows which one it is.
 #define FOR_A_FORM static inline __attribute__((always_inline))
 
-// The 64 bits of the image from bit number `bit` on, where a word begins, zeros past its end. An image of fewer than 8 bytes loses its filling bits, so
-// that they are not taken for node 2^k: a longer plain image has none, and in the full form no word behind the last one is read. It stands beside `bits_from`
-// in reading.h with its own loop: with one loop for both, gcc at -O2 made a check of full words at k = 12 a quarter slower.
+// The 64 bits of the image from bit number `bit` on, where a word begins, zeros past its end. An image of fewer than 8
+// bytes loses its filling bits, so that they are not taken for node 2^k: a longer plain image has none, and in the full
+// form no word behind the last one is read. It stands beside `bits_from` in reading.h with its own loop: with one loop
+// for both, gcc at -O2 made a check of full words at k = 12 a quarter slower.
 FOR_A_FORM uint64_t words_from(const uint8_t *image, size_t bytes, uint64_t bits, uint64_t bit)
 {
     size_t at = bit / 8;
@@ -39,7 +41,8 @@ FOR_A_FORM uint64_t words_from(const uint8_t *image, size_t bytes, uint64_t bits
     return v >> (64 - bits) << (64 - bits) << bit;
 }
 
-// A division of doubles guesses each node, and a product judges the guess, as in `judged_build` in otherwise.c: a node has at most 30 bits here.
+// A division of doubles guesses each node, and a product judges the guess, as in `judged_build` in otherwise.c: a node
+// has at most 30 bits here.
 answer CALL(build)(yildegga_format format, uint8_t *image, size_t length)
 {
     IN_RANGE(format);
@@ -61,8 +64,9 @@ answer CALL(build)(yildegga_format format, uint8_t *image, size_t length)
     return (answer){0, 0, 0};
 }
 
-// Two words in each reading, which holds them at every width: the first has an even number, so that at most 6 bits stand before it in its byte where it has
-// 29 bits, and at most 4 where it has 30. Word by word at the front in the plain form, near the end, and from a wrong pair on.
+// Two words in each reading, which holds them at every width: the first has an even number, so that at most 6 bits
+// stand before it in its byte where it has 29 bits, and at most 4 where it has 30. Word by word at the front in the
+// plain form, near the end, and from a wrong pair on.
 FOR_A_FORM answer check(yildegga_format format, uint32_t full, const uint8_t *image, size_t length)
 {
     uint32_t k = format.precision, a = format.table_guard_bits;

@@ -6,8 +6,8 @@
 
 enum { LEAST = 1, GREATEST = 12, LONGEST = 13312, FULL_LONGEST = 14340 };
 
-// The image of each precision with 8 bytes of 0 after it, its length, and its nodes in a flat table, all by the library; the full images, and their
-// lengths.
+// The image of each precision with 8 bytes of 0 after it, its length, and its nodes in a flat table, all by the
+// library; the full images, and their lengths.
 extern uint8_t images[GREATEST + 1][LONGEST + 8], full_images[GREATEST + 1][FULL_LONGEST];
 extern size_t lengths[GREATEST + 1], full_lengths[GREATEST + 1];
 extern uint32_t tables[GREATEST + 1][(1 << GREATEST) + 1];

@@ -1,5 +1,6 @@
-// The library's calls as the C here has its own: a precision in and a prefix for each form, or a format in; an answer out; those through a bound table
-// too. They are inlined, so that what is called and timed is the library's own function.
+// The library's calls as the C here has its own: a precision in and a prefix for each form, or a format in; an answer
+// out; those through a bound table too. They are inlined, so that what is called and timed is the library's own
+// function.
 #ifndef LIBRARY_H
 #define LIBRARY_H
 #include "calls.h"

@@ -1,5 +1,6 @@
-// Times the library's calls beside the same calls in C and beside what a user would take instead. The contestants of a case run in
-// turns, round after round, on new operands in each. Of a contestant the least time is printed; a ratio is the median of the rounds' ratios.
+// Times the library's calls beside the same calls in C and beside what a user would take instead. The contestants of a
+// case run in turns, round after round, on new operands in each. Of a contestant the least time is printed; a ratio is
+// the median of the rounds' ratios.
 #define _POSIX_C_SOURCE 200809L
 #include "given.h"
 #include "library.h"
@@ -51,8 +52,8 @@ static void of_any_length(void)
     }
 }
 
-// A pass makes its calls and gives how many they were. The calls of `name` stand alone; each of `name_in_turn` waits for the answer
-// before it.
+// A pass makes its calls and gives how many they were. The calls of `name` stand alone; each of `name_in_turn` waits
+// for the answer before it.
 typedef long pass(void);
 
 #define PASSES(name, type, taken, call)                       \
@@ -230,7 +231,8 @@ ANY(any_library, library_any)
 ANY(any_general_2, general_O2)
 ANY(any_general_3, general_O3)
 
-// Full ROMs of precision 8, in one buffer: each pass builds or checks the first `rom_length` bytes, or the image alone, or has the tail alone.
+// Full ROMs of precision 8, in one buffer: each pass builds or checks the first `rom_length` bytes, or the image alone,
+// or has the tail alone.
 enum { ROM_K = 8, ROM_MOST = 1 << 24 };
 static uint8_t rom[ROM_MOST];
 static size_t rom_length;
@@ -278,7 +280,8 @@ static double middle(double *of)
     return of[rounds / 2];
 }
 
-// Of each contestant: nanoseconds of a call, the least and the median of the rounds, and how many times its time the first one takes.
+// Of each contestant: nanoseconds of a call, the least and the median of the rounds, and how many times its time the
+// first one takes.
 static struct {
     double least, median, ratio;
 } result[MOST];
@@ -479,7 +482,8 @@ static void other_guard_bits(void)
     }
 }
 
-// The tail alone in each round, what the long buffer takes more than the image, as a ratio to the last contestant: its median.
+// The tail alone in each round, what the long buffer takes more than the image, as a ratio to the last contestant: its
+// median.
 static double tail_ratio(int rom_pass, int image_pass, int alone)
 {
     for (int r = 0; r < rounds; r++)
@@ -489,8 +493,8 @@ static double tail_ratio(int rom_pass, int image_pass, int alone)
 
 enum { ROM_PASSES = 6 };
 
-// The first three passes have the long buffer, the library and C at -O2 and -O3; the next two the image alone, the library and C at -O2; the
-// last one the tail alone. The longest buffer gets fewer rounds, of one call each.
+// The first three passes have the long buffer, the library and C at -O2 and -O3; the next two the image alone, the
+// library and C at -O2; the last one the tail alone. The longest buffer gets fewer rounds, of one call each.
 static void rom_row(const char *name, size_t length, pass *const *passes)
 {
     static const double scale = 1e-3;
@@ -551,8 +555,8 @@ static void instead(uint32_t precision)
         printf("%-32s %9.2f %11.2f   %9.2f %11.2f\n", names[c], alone[c].least, alone[c].ratio, result[c].least, result[c].ratio);
 }
 
-// Beside two of the ratios stands what they were to be at most when the builder was made faster. In the full form the first three ways
-// are measured.
+// Beside two of the ratios stands what they were to be at most when the builder was made faster. In the full form the
+// first three ways are measured.
 static void otherwise_built(void)
 {
     static const struct {

@@ -25,7 +25,8 @@ answer pairs_build(uint32_t k, uint8_t *image, size_t length)
     return (answer){0, 0, 0};
 }
 
-// The quotient is below 2^28 and lies 2^-13 or more from a whole number unless it is one, so 53 bits do not round it to another.
+// The quotient is below 2^28 and lies 2^-13 or more from a whole number unless it is one, so 53 bits do not round it to
+// another.
 answer doubles_build(uint32_t k, uint8_t *image, size_t length)
 {
     if (11 < k - 1)
@@ -42,7 +43,8 @@ answer doubles_build(uint32_t k, uint8_t *image, size_t length)
     return (answer){0, 0, 0};
 }
 
-// Bits that wait for their eight bytes: place % 64 of them, the lowest of `waiting`, where place is the bits that the image has so far.
+// Bits that wait for their eight bytes: place % 64 of them, the lowest of `waiting`, where place is the bits that the
+// image has so far.
 typedef struct {
     uint64_t waiting, place;
 } placed;
@@ -57,8 +59,9 @@ static inline placed put_placed(uint8_t *image, placed to, uint32_t width, uint6
     return (placed){word, place};
 }
 
-// The words of nodes 0 to `words` - 1, then `filling` zero bits, and zeros to the buffer's end. A guess counts only where it is right; where it is wrong,
-// whole numbers are divided. It is inlined, so that what the form settles is constant.
+// The words of nodes 0 to `words` - 1, then `filling` zero bits, and zeros to the buffer's end. A guess counts only
+// where it is right; where it is wrong, whole numbers are divided. It is inlined, so that what the form settles is
+// constant.
 static inline __attribute__((always_inline)) answer judged(uint32_t k, uint32_t width, uint64_t words, uint32_t filling, uint8_t *image, size_t length)
 {
     uint64_t count = (uint64_t)1 << k, numerator = (uint64_t)1 << (3 * k + 3), mask = ((uint64_t)1 << width) - 1;
@@ -102,8 +105,8 @@ kept_table kept_bind(uint32_t k, const uint8_t *image, size_t length)
     return (kept_table){image, bytes, width, count, lead, 2 * count * lead, k, length < bytes ? 2 : 0};
 }
 
-// The reciprocal where refusals 1 and 2 do not apply. It is inlined, so that what is constant in the caller is so here. The node number
-// comes from k bits, so that it is one whatever x is, and the words may be read before x is judged.
+// The reciprocal where refusals 1 and 2 do not apply. It is inlined, so that what is constant in the caller is so here.
+// The node number comes from k bits, so that it is one whatever x is, and the words may be read before x is judged.
 static inline __attribute__((always_inline)) answer within(const uint8_t *image, size_t bytes, uint32_t k, uint64_t width, uint64_t count,
                                                            uint64_t lead, uint64_t numerator, uint32_t n, uint64_t x)
 {

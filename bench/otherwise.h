@@ -7,8 +7,8 @@
 answer pairs_build(uint32_t k, uint8_t *image, size_t length);
 answer doubles_build(uint32_t k, uint8_t *image, size_t length);
 
-// The image as the library builds it, in either form: a division of doubles guesses each node, a product judges the guess, and words are stored by
-// eight bytes.
+// The image as the library builds it, in either form: a division of doubles guesses each node, a product judges the
+// guess, and words are stored by eight bytes.
 answer judged_build(uint32_t k, uint8_t *image, size_t length);
 answer judged_full_build(uint32_t k, uint8_t *image, size_t length);
 
@@ -22,7 +22,8 @@ typedef struct {
 kept_table kept_bind(uint32_t k, const uint8_t *image, size_t length);
 answer kept_reciprocal(const kept_table *table, uint32_t n, uint64_t x);
 
-// The reciprocal with code of its own for each precision, in which shifts, masks and the length are constants; all checks.
+// The reciprocal with code of its own for each precision, in which shifts, masks and the length are constants; all
+// checks.
 answer apart_reciprocal(uint32_t k, const uint8_t *image, size_t length, uint32_t n, uint64_t x);
 
 #endif

@@ -12,8 +12,8 @@ static inline uint64_t load(const uint8_t *at)
     return __builtin_bswap64(v);
 }
 
-// The 64 bits of the image from bit number `bit` on, zeros past its end. Near the end the last 8 bytes are read and shifted; the
-// images of k = 1 and 2 are shorter than that.
+// The 64 bits of the image from bit number `bit` on, zeros past its end. Near the end the last 8 bytes are read and
+// shifted; the images of k = 1 and 2 are shorter than that.
 static inline uint64_t bits_from(const uint8_t *image, size_t bytes, size_t bit)
 {
     size_t at = bit / 8;
@@ -48,7 +48,8 @@ static inline int right(uint64_t c, uint64_t i, uint64_t numerator)
     return c * i - numerator < i;
 }
 
-// A word of 0 stands for twice the leading one; anywhere but at node 0 that is judged wrong, as is the leading one alone.
+// A word of 0 stands for twice the leading one; anywhere but at node 0 that is judged wrong, as is the leading one
+// alone.
 static inline uint64_t decoded(uint64_t word, uint64_t lead)
 {
     return word == 0 ? 2 * lead : lead + word;

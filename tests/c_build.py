@@ -1,4 +1,5 @@
-"""What the tests of the C side share: running commands, tools that the machine may lack, the archive as make builds and installs it."""
+"""What the tests of the C side share: running commands, tools that the machine may lack, the archive as make builds and
+installs it."""
 import functools
 import os
 import pathlib
@@ -14,13 +15,15 @@ C_WARNINGS = [*WARNINGS, "-Wstrict-prototypes", "-Wmissing-prototypes"]
 
 
 def run(*words, cwd=ROOT, **more):
-    return subprocess.run(words, cwd=cwd, **{"stdin": subprocess.DEVNULL, "capture_output": True, "timeout": 900, **more})
+    usual = {"stdin": subprocess.DEVNULL, "capture_output": True, "timeout": 900}
+    return subprocess.run(words, cwd=cwd, **{**usual, **more})
 
 
 def well(*words, **more):
     """What a command writes to standard output; it must end with status 0."""
     done = run(*words, **more)
-    assert done.returncode == 0, f"{' '.join(map(str, words))}: status {done.returncode}: {(done.stderr or done.stdout)[-400:]!r}"
+    said = (done.stderr or done.stdout)[-400:]
+    assert done.returncode == 0, f"{' '.join(map(str, words))}: status {done.returncode}: {said!r}"
     return done.stdout.decode()
 
 

@@ -1,5 +1,5 @@
-"""Tests that compare the library, called as C calls it, with the independent implementation in tests/compare/, and one run of
-fewer cases under valgrind."""
+"""Tests that compare the library, called as C calls it, with the independent implementation in tests/compare/, and one
+run of fewer cases under valgrind."""
 import functools
 import os
 import pathlib
@@ -12,8 +12,8 @@ from c_build import need
 ROOT = pathlib.Path(__file__).resolve().parent.parent
 BUILT = ROOT / "target" / "cargo"
 
-# The parts of a run, each with the cases that it has at least, in both forms together. Those that do not say otherwise have two table guard bits and
-# three input guard bits.
+# The parts of a run, each with the cases that it has at least, in both forms together. Those that do not say otherwise
+# have two table guard bits and three input guard bits.
 OTHERS = [(a, b) for a in (2, 3, 4) for b in (3, 4, 5) if (a, b) != (2, 3)]
 
 
@@ -104,13 +104,15 @@ MEMORY = {
 
 
 def run(*words, **more):
-    return subprocess.run(words, cwd=ROOT, stdin=subprocess.DEVNULL, capture_output=True, text=True, timeout=1800, **more)
+    return subprocess.run(words, cwd=ROOT, stdin=subprocess.DEVNULL, capture_output=True, text=True, timeout=1800,
+                          **more)
 
 
 def well(*words, **more):
     """Runs a command that must end with status 0."""
     done = run(*words, **more)
-    assert done.returncode == 0, f"{' '.join(map(str, words))}: status {done.returncode}: {(done.stdout + done.stderr)[-400:]}"
+    said = (done.stdout + done.stderr)[-400:]
+    assert done.returncode == 0, f"{' '.join(map(str, words))}: status {done.returncode}: {said}"
 
 
 @functools.cache
@@ -120,7 +122,8 @@ def program():
     archive("yildegga_bound")
     given = {name: value for name, value in os.environ.items() if name != "YILDEGGA_LIB_DIR"}
     given |= {"CARGO_TARGET_DIR": str(BUILT), "RUSTFLAGS": "-D warnings"}
-    well("cargo", "build", "--release", "--offline", "--locked", "--manifest-path", "tests/compare/Cargo.toml", env=given)
+    well("cargo", "build", "--release", "--offline", "--locked", "--manifest-path", "tests/compare/Cargo.toml",
+         env=given)
     return BUILT / "release" / "compare"
 
 

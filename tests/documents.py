@@ -1,5 +1,6 @@
-"""Tests of the documents: the first page is short and true, links lead somewhere, and what a reader has to believe stands apart from what only
-inner promises cite."""
+"""Tests of the documents: the first page is short and true, pages are narrow and few, links lead somewhere, nothing
+cites what a reader of the repository does not have, and what a reader has to believe stands apart from what only inner
+promises cite."""
 import os
 import re
 
@@ -7,12 +8,19 @@ import reference
 from repository import CRATES, ROOT, listed, open_functions
 
 README = ROOT / "README.md"
-BESIDE = ["README.md", "c/README.md", "rust/README.md"]  # and docs/*.md
+DOCS = ROOT / "docs"
+BESIDE = ["README.md", "c/README.md", "rust/README.md"]  # and all below docs/
+MOST_LINES = 1400  # of docs/, but for docs/history
+WIDEST = 120
 NO_PART = {".git", "target", "out", "__pycache__"}
-MAY_NAME = {"docs/SCOPE.md", "docs/DECISIONS.md"}  # these say which documents are meant
-ELSEWHERE = re.compile(r"\.\./sha[r]ed|01-sco[p]e|02-change-requ[e]sts|proof-no[t]es|90-rat[t]le")  # with classes, so as not to find itself
-FOR_CALLERS = ["yildegga", "yildegga_bound", "precision", "building", "checking", "reading", "inverting", "binding", "table_text"]
-PAGES = ["Demand1", "Demand2", "Demand3", "Usual", "Plain", "Full", "Guards", "Neighbours", "Printed", "Examples"]
+
+# What a reader does not have: files beside the repository; papers and requests by their numbers, in whatever form. The
+# classes of one letter keep this file from finding itself.
+ELSEWHERE = re.compile(r"\.\./sha[r]ed|01-sco[p]e|02-change-requ[e]sts|proof-no[t]es|90-rat[t]le")
+BY_NUMBER = re.compile(r"(?-i:\b[Q][-_]?\d+)|[d]ocuments?[-_ ]*\d+|[d]emands?[-_ ]*\d+|\b[r]equests?[-_ #]*\d+", re.I)
+FOR_CALLERS = ["yildegga", "yildegga_bound", "precision", "format", "answers", "building", "checking", "reading",
+               "inverting", "binding", "table_text"]
+PAGES = ["Refusals", "Construction", "Bound", "Usual", "Plain", "Full", "Guards", "Neighbours", "Printed", "Examples"]
 
 
 # ---- the first page
@@ -34,18 +42,37 @@ def table_shown():
 def crates_named():
     """The first column of its table of crates names those of crates.txt, each once."""
     table = re.search(r"^\| crates \|.*\n\|[- |]*\n((?:\|.*\n)+)", README.read_text(), re.M)
-    named = [name for row in table[1].splitlines() for name in re.findall(r"`(\w+)`", row.split("|")[1])] if table else []
+    rows = table[1].splitlines() if table else []
+    named = [name for row in rows for name in re.findall(r"`(\w+)`", row.split("|")[1])]
     missing, more = sorted(set(listed()) - set(named)), sorted(set(named) - set(listed()))
     if missing or more or len(named) != len(set(named)):
         return f"not named: {missing}; no such crate: {more}; {len(named)} names"
     return None
 
 
-# ---- links
+# ---- all pages
 
 def pages():
-    return [ROOT / name for name in BESIDE] + sorted((ROOT / "docs").glob("*.md"))
+    return [ROOT / name for name in BESIDE] + sorted(DOCS.rglob("*.md"))
 
+
+def in_history(page):
+    return DOCS / "history" in page.parents
+
+
+def narrow():
+    """No line is wide, but for those of docs/history."""
+    bad = [f"{page.relative_to(ROOT)}: lines {wide}" for page in pages() if page.is_file() and not in_history(page)
+           if (wide := [number for number, line in enumerate(page.read_text().splitlines(), 1) if len(line) > WIDEST])]
+    return "; ".join(bad) or None
+
+
+def few_lines():
+    lines = {page.name: len(page.read_text().splitlines()) for page in DOCS.rglob("*.md") if not in_history(page)}
+    return None if 0 < sum(lines.values()) <= MOST_LINES else f"{sum(lines.values())} lines: {lines}"
+
+
+# ---- links
 
 def prose(page):
     """A page without its code."""
@@ -86,17 +113,33 @@ def texts():
                 continue
 
 
+def run_on(text):
+    """A text without its ends of lines, and without what begins a line of comment behind them."""
+    return re.sub(r"[ \t]*\n[ \t]*(?:(?://[/!]?|--|#|\*|\|)[ \t]+)?", " ", text)
+
+
 def nothing_elsewhere():
-    """No file but those that say which documents are meant names a file that is not in the repository."""
+    """No file names a file that is not in the repository."""
     found = dict(texts())
-    bad = [f"{name}: {ELSEWHERE.search(text)[0]}" for name, text in found.items() if name not in MAY_NAME and ELSEWHERE.search(text)]
+    bad = [f"{name}: {ELSEWHERE.search(text)[0]}" for name, text in found.items() if ELSEWHERE.search(text)]
     return "; ".join(bad) or (None if "README.md" in found else "no file was found")
 
 
+def nothing_by_number():
+    """No file cites a paper or a request by its number, neither in its text, over the ends of lines too, nor in its
+    name."""
+    cited = {name: BY_NUMBER.findall(f"{name} {run_on(text)}") for name, text in texts()}
+    bad = [f"{name} ({len(found)}, {found[0]})" for name, found in cited.items() if found]
+    if bad:
+        return f"{sum(map(len, cited.values()))} in {len(bad)} files: {', '.join(bad)}"
+    return None if cited else "no file was found"
+
+
 def titles_stand():
-    """What comments cite of document 01 by its title is a heading of docs/SCOPE.md, which states it."""
-    there = set(re.findall(r"^## (.*)$", (ROOT / "docs" / "SCOPE.md").read_text(), re.M))
-    cited = {(title, name) for name, text in texts() for titles in re.findall(r'document 01,((?: (?:and )?"[^"\n]+")+)', text)
+    """Where a file names docs/SCOPE.md and, behind a comma, titles in quotation marks, each is one of its headings."""
+    there = set(re.findall(r"^#+ (.*)$", (DOCS / "SCOPE.md").read_text(), re.M))
+    cited = {(title, name) for name, text in texts()
+             for titles in re.findall(r'docs/SCOPE\.md,((?: (?:and )?"[^"]+",?)+)', run_on(text))
              for title in re.findall(r'"([^"]+)"', titles)}
     bad = sorted(f"{name}: {title}" for title, name in cited if title not in there)
     return "; ".join(bad) or (None if cited else "no title is cited")
@@ -128,7 +171,8 @@ def definitions_apart():
 
 def inner_names(text):
     """The names that a source file imports from Inner files, as it calls them."""
-    lists = re.findall(r"\buse [\w·.]+\.Inner\.\{([^}]*)\}", text) + re.findall(r"\buse [\w·.]+\.Inner\.([^\s{;]+)", text)
+    lists = re.findall(r"\buse [\w·.]+\.Inner\.\{([^}]*)\}", text)
+    lists += re.findall(r"\buse [\w·.]+\.Inner\.([^\s{;]+)", text)
     return {name.split()[-1] for names in lists for name in names.split(",") if name.strip()} | {"Inner"}
 
 
@@ -153,10 +197,13 @@ def tests():
     yield "documents: README.md is under 120 lines of at most 120 columns", short
     yield "documents: README.md shows the printed table of precision 2", table_shown
     yield "documents: README.md names every crate", crates_named
+    yield f"documents: no line has more than {WIDEST} columns, but in docs/history", narrow
+    yield f"documents: docs/ has at most {MOST_LINES} lines, but for docs/history", few_lines
     yield "documents: every link leads to a file", links_lead
     yield "documents: every reference stands on its page", references_stand
     yield "documents: no file names a document that is not in the repository", nothing_elsewhere
-    yield "documents: docs/SCOPE.md has the titles of document 01 that comments cite", titles_stand
+    yield "documents: no file cites a paper or a request by its number", nothing_by_number
+    yield "documents: docs/SCOPE.md has the headings that comments cite", titles_stand
     yield "documents: README.md says how many lines of definitions there are to believe", lines_stated
     yield "documents: no definition to believe stands on an Inner file", definitions_apart
     yield "documents: no promise that a caller meets cites an Inner file", promises_apart

@@ -31,7 +31,8 @@ def same(found, expected):
 
 
 def run(name, pieces, pause=0.0):
-    """What the program writes to standard output when its input arrives in these pieces. It must end well and say nothing else."""
+    """What the program writes to standard output when its input arrives in these pieces. It must end well and say
+    nothing else."""
     process = subprocess.Popen([program(name)], stdin=subprocess.PIPE, stdout=subprocess.PIPE, stderr=subprocess.PIPE)
     try:
         for piece in pieces:
@@ -82,29 +83,32 @@ def printed_output():
 
 
 def random_operands(rng, k):
-    """The numbers of a line of operands, but for those of the table: often near a node, often with fraction bits that can be served, as many as
-    the table looks at, fewer or more."""
-    n = rng.choice([0, 1, k, k + 1, 2 * k + 2, 2 * k + 3, 2 * k + 3, 2 * k + 4, 2 * k + 5, 2 * k + 6, 31, 32, 52, 62, 63, 63, 64, rng.randrange(70)])
+    """The numbers of a line of operands, but for those of the table: often near a node, often with fraction bits that
+    can be served, as many as the table looks at, fewer or more."""
+    n = rng.choice([0, 1, k, k + 1, 2 * k + 2, 2 * k + 3, 2 * k + 3, 2 * k + 4, 2 * k + 5, 2 * k + 6,
+                    31, 32, 52, 62, 63, 63, 64, rng.randrange(70)])
     n = min(n, 2 ** 32 - 1)
     least = 2 ** min(n, 64)
     nodes = 2 ** min(k, n, 12)  # that have an operand, but for the last one
     piece = least // nodes
     node = least + piece * rng.randint(0, nodes)
-    x = rng.choice([node - 1, node, node + 1, least + rng.randrange(least), least + rng.randrange(least), rng.getrandbits(64)])
+    x = rng.choice([node - 1, node, node + 1, least + rng.randrange(least), least + rng.randrange(least),
+                    rng.getrandbits(64)])
     step = rng.choice([1, piece, piece // 2 + 1, rng.getrandbits(64)])
     return f"{k} {n} {x % 2 ** 64} {rng.randint(0, 6)} {step % 2 ** 64}"
 
 
 def random_guard_bits(rng):
-    """Table guard bits and input guard bits: half of them two and three, most of the others in range, some just out of it or far."""
+    """Table guard bits and input guard bits: half of them two and three, most of the others in range, some just out of
+    it or far."""
     far = rng.choice([(rng.choice([0, 258, 4294967295]), 3), (2, rng.choice([0, 259, 4294967295]))])
     near, inside = (rng.randint(1, 5), rng.randint(2, 6)), (rng.randint(2, 4), rng.randint(3, 5))
     return rng.choice([(2, 3)] * 6 + [inside] * 4 + [near, far])
 
 
 def random_line(rng):
-    """A line of a script, or a few: mostly small precisions, either form, any guard bits, often an image, often slightly damaged, at any length; a full
-    ROM, and one with a byte of it changed."""
+    """A line of a script, or a few: mostly small precisions, either form, any guard bits, often an image, often
+    slightly damaged, at any length; a full ROM, and one with a byte of it changed."""
     form = rng.choice([0, 0, 0, 0, 1, 1, 1, rng.choice([2, 256, 4294967295])])
     a, b = random_guard_bits(rng)
     table = f"{form}" if (a, b) == (2, 3) and rng.randrange(4) else f"{form} {a} {b}"
@@ -113,15 +117,17 @@ def random_line(rng):
     first = rng.choice([0, rng.randint(0, last), last - 1, last, last + 1, rng.randint(0, 2 ** 32 - 1)])
     to = min(first + rng.randint(0, 5), 2 ** 32 - 1)
     size = reference.call_image_length(k, form, a, b) or 4
-    kind = rng.choice(["hex", "hex", "image", "image", "xor", "xor", "length", "length", "fill", "build", "check", "check", "node",
-                       "node", "word", "rule", "precision", "format", "show", "kept", "invert", "around", "through", "served", "served",
+    kind = rng.choice(["hex", "hex", "image", "image", "xor", "xor", "length", "length", "fill", "build", "check",
+                       "check", "node", "node", "word", "rule", "precision", "format", "show", "kept", "invert",
+                       "around", "through", "served", "served",
                        "served", "rom", "rom", "rom"])
     rom = min(size + rng.choice([1, 2, 63, 64, 65, rng.randint(0, 300), 16384]), 16384)
     changed = rng.choice([size, rng.randint(size, rom), rom - 1, rom, rng.randrange(rom)])
     return {
         "hex": "hex " + " ".join(f"{rng.randrange(256):02X}" for _ in range(rng.randint(1, 9))),
         "image": f"length {size}\nbuild {k} {table}",
-        "xor": f"xor {rng.randrange(rng.choice([1, 3, 8, 20, 16384]))} {rng.choice([1, 2, 4, 8, 16, 32, 64, 128, 255])}",
+        "xor": f"xor {rng.randrange(rng.choice([1, 3, 8, 20, 16384]))} "
+               f"{rng.choice([1, 2, 4, 8, 16, 32, 64, 128, 255])}",
         "length": f"length {rng.choice([0, max(size - 1, 0), size, size + 1, rng.randint(0, 40), 16384])}",
         "fill": f"fill {rng.randrange(256)} {rng.choice([0, 1, rng.randrange(256)])}",
         "build": f"build {rng.choice([0, 1, 2, 3, 4, 13])} {table}\nshow",
@@ -136,7 +142,8 @@ def random_line(rng):
         "invert": f"invert {random_operands(rng, k)} {table}",
         "around": f"around {random_operands(rng, k)} {table}",
         "through": f"through {random_operands(rng, k)} {table}",
-        "rom": f"length {rom}\nbuild {k} {table}\ncheck {k} 0 {table}\nxor {min(changed, 16383)} {rng.randint(1, 255)}\n"
+        "rom": f"length {rom}\nbuild {k} {table}\ncheck {k} 0 {table}\n"
+               f"xor {min(changed, 16383)} {rng.randint(1, 255)}\n"
                f"check {k} 0 {table}\nnode {first} {to} {k} {table}",
         "served": f"length {size}\nbuild {k} {table}\ninvert {random_operands(rng, k)} {table}",
     }[kind]
@@ -149,8 +156,8 @@ def random_scripts(seed):
 
 
 def reciprocals(output):
-    """Each answer of a reciprocal that `cases` printed: the lent bytes, by the line that last changed them; the table that they are taken for, as
-    whether it is full, A and B; K, N, the operand, its number, its place and its value."""
+    """Each answer of a reciprocal that `cases` printed: the lent bytes, by the line that last changed them; the table
+    that they are taken for, as whether it is full, A and B; K, N, the operand, its number, its place and its value."""
     changed, numbers = 0, None
     for at, line in enumerate(output.decode().splitlines()):
         word, *rest = line.split(" ")
@@ -164,8 +171,8 @@ def reciprocals(output):
 
 
 def less_than_an_ulp():
-    """Each reciprocal that the program gives, and there are many, also of short operands, by full words and with any guard bits, is less than an
-    ulp from the exact one."""
+    """Each reciprocal that the program gives, and there are many, also of short operands, by full words and with any
+    guard bits, is less than an ulp from the exact one."""
     given = [(table, k, n, x, value) for _, table, k, n, x, number, _, value in reciprocals(printed()) if number == 0]
     for table, k, n, x, value in given:
         if abs(Fraction(value, 2 ** (2 * k + 1)) - Fraction(2 ** n, x)) >= Fraction(1, 2 ** (2 * k + 1)):
@@ -173,7 +180,8 @@ def less_than_an_ulp():
     short = sum(n < 2 * k + b for (_, _, b), k, n, _, _ in given)
     full = sum(full for (full, _, _), *_ in given)
     each = Counter(table for table, *_ in given)
-    enough = len(given) > 5000 and short > 3000 and full > 2000 and all(each[full, a, b] > 100 for full in (False, True) for a, b in script.GUARD_BITS)
+    all_tables = all(each[full, a, b] > 100 for full in (False, True) for a, b in script.GUARD_BITS)
+    enough = len(given) > 5000 and short > 3000 and full > 2000 and all_tables
     return None if enough else f"only {len(given)} are given, {short} of short operands, {full} by full words, {each}"
 
 
@@ -183,8 +191,8 @@ def cut_operand(k, n, x, b):
 
 
 def bits_to_the_right():
-    """Operands whose first 2k + b fraction bits are the same, zeros standing for those that a short one does not have, get the same answer
-    from the same bytes, refusals included."""
+    """Operands whose first 2k + b fraction bits are the same, zeros standing for those that a short one does not have,
+    get the same answer from the same bytes, refusals included."""
     found = {}
     for changed, table, k, n, x, *answer in reciprocals(printed()):
         b = table[-1]
@@ -193,7 +201,8 @@ def bits_to_the_right():
     for (_, table, k, begins), answers in found.items():
         if len(answers) > 1:
             return f"precision {k}, {table}, operands that begin with the bits {begins:b}: {answers}"
-    lengths = [(b, answer[0], 2 * k + b, bits) for (_, (_, _, b), k, _), answers in found.items() for answer, bits in answers.items()]
+    lengths = [(b, answer[0], 2 * k + b, bits)
+               for (_, (_, _, b), k, _), answers in found.items() for answer, bits in answers.items()]
     bad = []
     for b in (3, 4, 5):
         own = [rest for input_bits, *rest in lengths if input_bits == b]
@@ -202,14 +211,16 @@ def bits_to_the_right():
             "a short one and one that is cut": {number for number, cut, bits in own if min(bits) < cut < max(bits)},
             "two short ones": {number for number, cut, bits in own if len([n for n in bits if n < cut]) > 1},
         }
-        bad += [f"{which} with {b} input guard bits: {numbers}" for which, numbers in several.items() if numbers != {0, 5, 6}]
+        bad += [f"{which} with {b} input guard bits: {numbers}" for which, numbers in several.items()
+                if numbers != {0, 5, 6}]
     return f"operands of several lengths get only the numbers of {bad}" if bad else None
 
 
 def steps_of_neighbours():
-    """Any two reciprocals that the program gives at one precision with the same guard bits, whatever images and lengths of operands they come from:
-    that of the larger cut operand is not larger, and where the cut operands differ by d it is less by at most d / 2^(b-1), rounded up. With all
-    guard bits so large a step, of more than one ulp, is met: from the least operand, across a node, by two forms and by two lengths."""
+    """Any two reciprocals that the program gives at one precision with the same guard bits, whatever images and lengths
+    of operands they come from: that of the larger cut operand is not larger, and where the cut operands differ by d it
+    is less by at most d / 2^(b-1), rounded up. With all guard bits so large a step, of more than one ulp, is met: from
+    the least operand, across a node, by two forms and by two lengths."""
     given = {}  # by precision and guard bits: each cut operand with R, and the forms and lengths with which it is given
     for _, (full, a, b), k, n, x, number, _, value in reciprocals(printed()):
         if number == 0:
@@ -231,8 +242,10 @@ def steps_of_neighbours():
 
 
 def bound_table():
-    """Each call through a bound table stands below the same one on the image itself, and is answered as that one was."""
-    itself = {"kept": ("node", 3), "through": ("invert", 5)}  # the call on the image, and how many numbers stand before the form
+    """Each call through a bound table stands below the same one on the image itself, and is answered as that one
+    was."""
+    # The call on the image, and how many numbers stand before the form.
+    itself = {"kept": ("node", 3), "through": ("invert", 5)}
     asked = re.split(r"\n(?! )", printed().decode())
     seen = set()
     for above, each in zip(asked, asked[1:]):
@@ -246,15 +259,18 @@ def bound_table():
     return None if seen == wanted else f"asked were only {seen}"
 
 
-# ---- what the documents say
+# ---- the set examples
 
-def document_examples():
-    """The examples and limits of document 01 for the image, those of Q-2, Q-7 and Q-14 among them, and the P that it names, by the reference."""
-    nodes = {(1, 2): [32, 22, 16], (2, 2): [128, 103, 86, 74, 64], (3, 2): [512, 456, 410, 373, 342, 316, 293, 274, 256],
-             (1, 3): [64, 43, 32], (1, 4): [128, 86, 64], (2, 3): [256, 205, 171, 147, 128], (2, 4): [512, 410, 342, 293, 256]}
-    images = {(1, PLAIN, 2): "06", (2, PLAIN, 2): "02 75 8A", (3, PLAIN, 2): "00 C8 9A 75 56 3C 25 12", (1, FULL, 2): "81 64 00",
-              (2, FULL, 2): "80 67 56 4A 40", (1, PLAIN, 3): "02 C0", (1, PLAIN, 4): "01 60", (2, PLAIN, 3): "01 35 59 30",
-              (2, PLAIN, 4): "00 9A 56 25", (1, FULL, 3): "80 AD 00", (1, FULL, 4): "80 56 40", (2, FULL, 3): "80 33 55 69 34 00"}
+def set_image():
+    """The set examples and limits of the image, of full ROMs, full words and guard bits too, and the P of 135, by the
+    reference."""
+    nodes = {(1, 2): [32, 22, 16], (2, 2): [128, 103, 86, 74, 64],
+             (3, 2): [512, 456, 410, 373, 342, 316, 293, 274, 256], (1, 3): [64, 43, 32], (1, 4): [128, 86, 64],
+             (2, 3): [256, 205, 171, 147, 128], (2, 4): [512, 410, 342, 293, 256]}
+    images = {(1, PLAIN, 2): "06", (2, PLAIN, 2): "02 75 8A", (3, PLAIN, 2): "00 C8 9A 75 56 3C 25 12",
+              (1, FULL, 2): "81 64 00", (2, FULL, 2): "80 67 56 4A 40", (1, PLAIN, 3): "02 C0", (1, PLAIN, 4): "01 60",
+              (2, PLAIN, 3): "01 35 59 30", (2, PLAIN, 4): "00 9A 56 25", (1, FULL, 3): "80 AD 00",
+              (1, FULL, 4): "80 56 40", (2, FULL, 3): "80 33 55 69 34 00"}
     for (k, a), values in nodes.items():
         if [reference.node(k, j, a) for j in range(2 ** k + 1)] != values:
             return f"the nodes of precision {k} with {a} table guard bits"
@@ -326,15 +342,16 @@ def document_examples():
     return None if reference.point(2, 135) * 2 ** 5 == 3921 else "P of 135"
 
 
-def document_cases(output):
-    """tests/document01.txt has the cases of document 01 for reciprocals and those of Q-2, Q-5, Q-7 and Q-14, as `cases` must print them, and says where
-    their answers are from. It must be printed as it stands, with no line between and none after its last case."""
-    document = (ROOT / "tests" / "document01.txt").read_bytes()
-    cases = re.findall(rb"^#.*\n(?!#)", document, re.M)
+def set_reciprocals(output):
+    """tests/set_examples.txt has the set examples for reciprocals, and those of short operands, full ROMs, full words,
+    guard bits and steps of neighbours, as `cases` must print them, and says where their answers are from. It must be
+    printed as it stands, with no line between and none after its last case."""
+    examples = (ROOT / "tests" / "set_examples.txt").read_bytes()
+    cases = re.findall(rb"^#.*\n(?!#)", examples, re.M)
     if len(cases) != 91:
         return f"there are {len(cases)} cases"
     below = output.split(script.MARK.encode(), 1)[1]
-    return same(below[:len(document) + 1], document + b"#")
+    return same(below[:len(examples) + 1], examples + b"#")
 
 
 PRINTED_2 = b"""precision 2 bytes 3
@@ -346,11 +363,11 @@ PRINTED_2 = b"""precision 2 bytes 3
 """
 
 
-def document_table():
+def set_table():
     return same(reference.table(b"2\n").encode(), PRINTED_2)
 
 
-# ---- Tables 1 and 2 of document 002
+# ---- the paper's Tables 1 and 2
 
 def paper_rows(table):
     lines = (ROOT / "tests" / f"{table}.txt").read_text().splitlines()
@@ -378,7 +395,7 @@ def table1_reference():
 
 def table1_program():
     """The rows of Table 1 by the node values that the program prints."""
-    values = re.findall(r"^ (\d+) 0 0 (\d+)$", printed_below("Table 1 of document 002"), re.M)
+    values = re.findall(r"^ (\d+) 0 0 (\d+)$", printed_below("Das Sarma and Matula, Table 1"), re.M)
     found = [f"1.{int(j):02b} xxxxx {int(value) // 128}.{int(value) % 128:07b}" for j, value in values]
     return None if found == paper_rows("table1") else f"found {found}"
 
@@ -393,7 +410,7 @@ def table2_reference():
 
 def table2_program():
     """The first and last columns of Table 2 by the reciprocals that the program prints."""
-    found = re.findall(r"^ (\d+) 0 0 (\d+)$", printed_below("Table 2 of document 002"), re.M)
+    found = re.findall(r"^ (\d+) 0 0 (\d+)$", printed_below("Das Sarma and Matula, Table 2"), re.M)
     return None if [" ".join(pair) for pair in found] == paper_rows("table2") else f"found {found}"
 
 
@@ -475,28 +492,40 @@ def printed_table(pieces, refused):
     return same(run("print_table", pieces, 0.02 if len(pieces) > 1 else 0.0), expected)
 
 
-def printed_table_closed():
-    """Standard input is closed before the program starts, so that it can read nothing."""
-    done = subprocess.run(["sh", "-c", 'exec "$0" <&-', program("print_table")], capture_output=True, timeout=60)
-    assert done.stderr == b"", f"standard error: {done.stderr[:80]!r}"
-    return same(done.stdout, b"refused 1\n") or (f"exit status {done.returncode}" if done.returncode else None)
+# How a read or a write fails: standard input and output as a shell sets them before the program starts.
+FAILS = {
+    "input closed": "<&-",
+    "input a folder": "</",
+    "output closed": "<<< 2 >&-",
+    "output full": "<<< 2 >/dev/full",
+}
 
 
-def printed_table_document():
+def printed_table_fails(how):
+    """The program ends with status 1 and a message, and writes nothing else."""
+    done = subprocess.run(["bash", "-c", f'exec "$0" {FAILS[how]}', program("print_table")], capture_output=True,
+                          stdin=subprocess.DEVNULL, timeout=60)
+    if done.returncode != 1 or done.stdout or not re.fullmatch(rb"Error: .+\n", done.stderr):
+        return f"exit status {done.returncode}, output {done.stdout[:40]!r}, standard error {done.stderr[:80]!r}"
+    return None
+
+
+def printed_set_table():
     return same(run("print_table", [b"2\n"]), PRINTED_2)
 
 
 def one_command():
     """./print-table 2, which the README has a newcomer type, started in another folder."""
-    done = subprocess.run([ROOT / "print-table", "2"], cwd="/", stdin=subprocess.DEVNULL, capture_output=True, timeout=3600)
+    done = subprocess.run([ROOT / "print-table", "2"], cwd="/", stdin=subprocess.DEVNULL, capture_output=True,
+                          timeout=3600)
     return same(done.stdout, PRINTED_2) or (f"exit status {done.returncode}" if done.returncode else None)
 
 
 def tests():
-    yield "document 01: the examples and limits of the image, those of Q-2, Q-7 and Q-14, and P of 135, by the reference", document_examples
-    yield "document 01: its cases for reciprocals and those of Q-2, Q-5, Q-7 and Q-14, by the reference", lambda: document_cases(expected())
-    yield "document 01: its cases for reciprocals and those of Q-2, Q-5, Q-7 and Q-14, by the program", lambda: document_cases(printed())
-    yield "document 01: the printed table of precision 2, by the reference", document_table
+    yield "set examples: the image, its limits and P of 135, by the reference", set_image
+    yield "set examples: reciprocals, by the reference", lambda: set_reciprocals(expected())
+    yield "set examples: reciprocals, by the program", lambda: set_reciprocals(printed())
+    yield "set examples: the printed table of precision 2, by the reference", set_table
     yield "cases: the stored script below its mark is what tests/script.py writes", stored_script
     yield "cases: the stored output is what the reference writes", stored_output
     yield "cases: the program prints what the reference writes", printed_output
@@ -504,16 +533,18 @@ def tests():
         yield f"cases: 400 random lines, seed {seed}", lambda seed=seed: random_scripts(seed)
     yield "cases: each reciprocal given is less than an ulp off", less_than_an_ulp
     yield "cases: operands with the same first 2k + b fraction bits get the same answer", bits_to_the_right
-    yield "cases: steps of neighbours, between any two reciprocals at one precision with the same guard bits", steps_of_neighbours
+    yield ("cases: steps of neighbours, between any two reciprocals at one precision with the same guard bits",
+           steps_of_neighbours)
     yield "cases: a bound table gives what the calls on its image give", bound_table
-    yield "Table 1 of document 002: the reference", table1_reference
-    yield "Table 1 of document 002: the program", table1_program
-    yield "Table 2 of document 002: the reference", table2_reference
-    yield "Table 2 of document 002: the program", table2_program
-    yield "print_table: document 01, precision 2", printed_table_document
+    yield "Das Sarma and Matula, Table 1: the reference", table1_reference
+    yield "Das Sarma and Matula, Table 1: the program", table1_program
+    yield "Das Sarma and Matula, Table 2: the reference", table2_reference
+    yield "Das Sarma and Matula, Table 2: the program", table2_program
+    yield "print_table: the set example, precision 2", printed_set_table
     yield "print-table: one command prints the table of precision 2", one_command
     for name, pieces in GOOD.items():
         yield f"print_table: {name}", lambda pieces=pieces: printed_table(pieces, False)
     for name, pieces in BAD.items():
         yield f"print_table refuses: {name}", lambda pieces=pieces: printed_table(pieces, True)
-    yield "print_table refuses: input closed", printed_table_closed
+    for how in FAILS:
+        yield f"print_table fails: {how}", lambda how=how: printed_table_fails(how)

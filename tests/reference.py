@@ -1,7 +1,7 @@
 #!/usr/bin/env python3
-"""Writes what the programs must print. It shares no code with the library and works by another method:
-fractions for the nodes and for the points on the lines between them, strings of '0' and '1' for the packing and the leading bits of
-operands, the answers from the words of documents 01 and 02.
+"""Writes what the programs must print. It shares no code with the library and works by another method: fractions for
+the nodes and for the points on the lines between them, strings of '0' and '1' for the packing and the leading bits of
+operands, the answers from the words of docs/SCOPE.md.
 
 usage: reference.py cases <SCRIPT   what the program `cases` prints on that script (crates/cases/stdin)
        reference.py table <INPUT    what the program `print_table` prints on that standard input
@@ -16,14 +16,15 @@ LEAST, GREATEST = 1, 12
 LEAST_TABLE, GREATEST_TABLE = 2, 4  # a, the table guard bits
 LEAST_INPUT, GREATEST_INPUT = 3, 5  # b, the input guard bits
 LEAST_BITS, MOST_BITS = 1, 63  # of an operand's fraction
-LENGTHS = [1, 3, 8, 20, 48, 112, 256, 576, 1280, 2816, 6144, 13312]  # of the plain images at a = 2, as document 01 lists them
+# Of the plain images at a = 2, as docs/SCOPE.md, "The image" lists them.
+LENGTHS = [1, 3, 8, 20, 48, 112, 256, 576, 1280, 2816, 6144, 13312]
 PLAIN, FULL = 0, 1  # the forms; as from C, any number but 0 is full
 
 
 # ---- the meaning
 #
-# A table is that of a precision k, of a form where it has words, of a table guard bits, and of b input guard bits where there are operands. The form,
-# a and b are the last parameters in this order; left out, they are plain, 2 and 3.
+# A table is that of a precision k, of a form where it has words, of a table guard bits, and of b input guard bits where
+# there are operands. The form, a and b are the last parameters in this order; left out, they are plain, 2 and 3.
 
 def in_range(k):
     return LEAST <= k <= GREATEST
@@ -60,7 +61,8 @@ def length(k, form=PLAIN, a=2):
 
 
 def stored(k, j, form=PLAIN, a=2):
-    """The word of node j, as a string of bits, most significant first: the last ones of c(j), and in the full form all 2k + a + 2."""
+    """The word of node j, as a string of bits, most significant first: the last ones of c(j), and in the full form all
+    2k + a + 2."""
     return format(node(k, j, a), "b").zfill(2 * k + a + 2)[-width(k, form, a):]
 
 
@@ -79,7 +81,8 @@ def bits_of(buffer):
 
 
 def tail_is_not_zero(k, buffer, form=PLAIN, a=2):
-    """The lowest byte in which a bit behind the words is one, and none where all are zeros: the byte of the first such bit."""
+    """The lowest byte in which a bit behind the words is one, and none where all are zeros: the byte of the first such
+    bit."""
     one = bits_of(buffer).find("1", bit_count(k, form, a))
     return [] if one < 0 else [one // 8]
 
@@ -91,8 +94,8 @@ def word_is_wrong(k, buffer, j, form=PLAIN, a=2):
 
 
 def leading(k, x, b=3):
-    """The operand's leading bits: the k + 1 of i, which begin with its leading one, and the k + b of f after them. Zeros stand for those
-    that it does not have."""
+    """The operand's leading bits: the k + 1 of i, which begin with its leading one, and the k + b of f after them.
+    Zeros stand for those that it does not have."""
     bits = format(x, "b").ljust(2 * k + b + 1, "0")
     return bits[:k + 1], bits[k + 1:2 * k + b + 1]
 
@@ -103,7 +106,8 @@ def piece(k, x):
 
 
 def point(k, x, a=2, b=3):
-    """P / 2^(k+b): the point on the straight line from node j to node j + 1 that is f / 2^(k+b) of the way along, in table units."""
+    """P / 2^(k+b): the point on the straight line from node j to node j + 1 that is f / 2^(k+b) of the way along, in
+    table units."""
     way = Fraction(int(leading(k, x, b)[1], 2), 2 ** (k + b))
     start, end = node(k, piece(k, x), a), node(k, piece(k, x) + 1, a)
     return start * (1 - way) + end * way
@@ -112,7 +116,8 @@ def point(k, x, a=2, b=3):
 def reciprocal(k, n, x, a=2, b=3):
     """R: that point in ulps of 2^a table units, rounded down. It is less than an ulp off."""
     ulps = math.floor(point(k, x, a, b) / 2 ** a)
-    assert abs(ulps * x - 2 ** (n + 2 * k + 1)) < x, f"precision {k}, {x} with {n} fraction bits: {ulps} is an ulp off, or more"
+    off = abs(ulps * x - 2 ** (n + 2 * k + 1))
+    assert off < x, f"precision {k}, {x} with {n} fraction bits: {ulps} is an ulp off, or more"
     return ulps
 
 
@@ -225,9 +230,11 @@ def value_or_0(k, j):
 
 
 class Cases:
-    """Runs a script as crates/cases/src/main.rt describes it: each command is a method, and what it returns is printed."""
+    """Runs a script as crates/cases/src/main.rt describes it: each command is a method, and what it returns is
+    printed."""
 
-    COMMANDS = "fill hex xor length show sum build precision format check node kept word rule eight invert around through".split(" ")
+    COMMANDS = ("fill hex xor length show sum build precision format check node kept word rule eight "
+                "invert around through").split(" ")
 
     def __init__(self):
         self.room = bytes(ROOM)
@@ -262,7 +269,8 @@ class Cases:
 
     def sum(self):
         """The 64-bit FNV-1a hash of the lent bytes."""
-        return row(functools.reduce(lambda sofar, byte: (sofar ^ byte) * (2 ** 40 + 0x1b3) % 2 ** 64, self.buffer(), 0xcbf29ce484222325))
+        return row(functools.reduce(lambda sofar, byte: (sofar ^ byte) * (2 ** 40 + 0x1b3) % 2 ** 64, self.buffer(),
+                                    0xcbf29ce484222325))
 
     def build(self, k, form=PLAIN, a=2, b=3):
         answer, after = call_build(k, self.buffer(), form, a, b)
@@ -276,7 +284,8 @@ class Cases:
     def precision(self, first, last=0, a=2):
         def answer(k):
             words, size = (2 ** k, LENGTHS[k - 1]) if in_range(k) else (0, 0)
-            return row(int(in_range(k)), width(k, PLAIN, a), words, size, LEAST, GREATEST, max(LENGTHS), LEAST_BITS, MOST_BITS)
+            return row(int(in_range(k)), width(k, PLAIN, a), words, size, LEAST, GREATEST, max(LENGTHS), LEAST_BITS,
+                       MOST_BITS)
         return self.each(first, last, answer)
 
     def format(self, first, last=0, form=PLAIN, a=2, b=3):
@@ -284,8 +293,9 @@ class Cases:
 
         def answer(k):
             words = count(k, form) if in_range(k) else 0
-            return row(width(k, form, a), words, call_image_length(k, form, a, b), int(guard_bits_in_range(a, b)), *longest,
-                       LEAST_TABLE, GREATEST_TABLE, LEAST_INPUT, GREATEST_INPUT)
+            size, offered = call_image_length(k, form, a, b), int(guard_bits_in_range(a, b))
+            return row(width(k, form, a), words, size, offered, *longest, LEAST_TABLE, GREATEST_TABLE, LEAST_INPUT,
+                       GREATEST_INPUT)
         return self.each(first, last, answer)
 
     def check(self, first, last=0, form=PLAIN, a=2, b=3):

@@ -1,7 +1,7 @@
 #!/usr/bin/env python3
 """Runs the tests that are run and not proved, after `rt ci` has built the programs.
 
-usage: python3 tests/run.py [WORD]     only the tests whose names hold WORD
+usage: python3 tests/run.py [WORD..]    all tests, or those whose names hold one of these words
 
 A line for each test, then 'N passed, M failed'; the exit status is 1 where any failed or none was run.
 """
@@ -15,19 +15,20 @@ import accuracy_page  # noqa: E402
 import c_side  # noqa: E402
 import comparing  # noqa: E402
 import documents  # noqa: E402
+import pages  # noqa: E402
 import programs  # noqa: E402
 import repository  # noqa: E402
 import rust_side  # noqa: E402
 import twins  # noqa: E402
 
-PARTS = [programs, repository, documents, c_side, rust_side, twins, comparing, accuracy_page]
+PARTS = [programs, repository, documents, pages, c_side, rust_side, twins, comparing, accuracy_page]
 
 
 def main():
-    word = sys.argv[1] if len(sys.argv) > 1 else ""
+    words = sys.argv[1:] or [""]
     passed = failed = 0
     for name, test in [test for part in PARTS for test in part.tests()]:
-        if word not in name:
+        if not any(word in name for word in words):
             continue
         try:
             why = test()

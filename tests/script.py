@@ -1,7 +1,8 @@
 #!/usr/bin/env python3
-"""Writes the cases for reciprocals, full ROMs, full words, other guard bits and steps of neighbours in crates/cases/stdin, the script of the program
-`cases`, whose commands crates/cases/src/main.rt describes. What stands down to the mark is kept, and is changed there. Below it come the cases of
-tests/document01.txt, without their answers, and those that are made here.
+"""Writes the cases for reciprocals, full ROMs, full words, other guard bits and steps of neighbours in
+crates/cases/stdin, the script of the program `cases`, whose commands crates/cases/src/main.rt describes. What stands
+down to the mark is kept, and is changed there. Below it come the cases of tests/set_examples.txt, without their
+answers, and those that are made here.
 
     python3 tests/script.py
     python3 tests/reference.py cases <crates/cases/stdin >crates/cases/stdout
@@ -21,7 +22,8 @@ TOP = 2 ** 64 - 1
 
 # ---- lines of a script
 #
-# A table is its precision and then its form, a table guard bits and b input guard bits, which are plain, 2 and 3 where they are left out.
+# A table is its precision and then its form, a table guard bits and b input guard bits, which are plain, 2 and 3 where
+# they are left out.
 
 size = reference.call_image_length
 
@@ -87,15 +89,15 @@ def flip_last(k, j, form=PLAIN, a=2, _=3):
     return flip((j + 1) * reference.width(k, form, a) - 1)
 
 
-# ---- what the documents say
+# ---- what is set, and what the paper has
 
-def document01():
-    lines = (ROOT / "tests" / "document01.txt").read_text().splitlines()
+def set_examples():
+    lines = (ROOT / "tests" / "set_examples.txt").read_text().splitlines()
     return [line for line in lines if not line.startswith(" ")]
 
 
 def table2():
-    yield "# Table 2 of document 002"
+    yield "# Das Sarma and Matula, Table 2"
     yield from image(2)
     yield invert(2, 7, 128, 33, 1)
 
@@ -111,15 +113,16 @@ def every_operand():
 
 
 def spread():
-    yield ("# A spread of operands at each precision: nodes and their neighbours, so both ends of the first, the middle and the last piece; "
-           "operands")
-    yield "# far apart; the same bits with others to their right; short operands; n beyond its limits; a buffer one byte short"
+    yield "# A spread of operands at each precision: nodes and their neighbours, so both ends of the first, the middle"
+    yield "# and the last piece; operands far apart; the same bits with others to their right; short operands; n beyond"
+    yield "# its limits; a buffer one byte short"
     for k in PRECISIONS:
         yield f"# A spread of operands: precision {k}"
         yield from image(k, 90)
         cut = 2 * k + 3  # the fraction bits that the table looks at
         for n in (cut - 1, cut, cut + 1, 31, 32, 52, 63):
-            # At most 17 nodes, evenly spread; where those are not all, the second one, the one after the middle, the last but one.
+            # At most 17 nodes, evenly spread; where those are not all, the second one, the one after the middle, the
+            # last but one.
             piece, parts = 2 ** (n - k), min(k, 4)
             yield around(k, n, 2 ** n, 2 ** parts + 1, 2 ** (n - parts))
             if k > parts:
@@ -143,8 +146,9 @@ def spread():
 
 
 def short(k, form=PLAIN):
-    """Short operands: both ends and both sides where fewer nodes than all have an operand, where each has one, and where the table looks at
-    one bit more than there is; one operand with zeros to its right, and with ones behind the first 2k + 3 fraction bits."""
+    """Short operands: both ends and both sides where fewer nodes than all have an operand, where each has one, and
+    where the table looks at one bit more than there is; one operand with zeros to its right, and with ones behind the
+    first 2k + 3 fraction bits."""
     for n in sorted({1, k - 1, k, 2 * k + 2} - {0}):
         yield around(k, n, 2 ** n, 2, 2 ** n, form)
     n, cut = k + 1, 2 * k + 3
@@ -172,8 +176,8 @@ def single_precision():
 
 
 def longer(n, x):
-    """Bits to the right of x, which has n fraction bits, at k = 2: each choice of up to three; of more, all zeros, and ones behind the first
-    7 fraction bits."""
+    """Bits to the right of x, which has n fraction bits, at k = 2: each choice of up to three; of more, all zeros, and
+    ones behind the first 7 fraction bits."""
     for m in (0, 1, 2, 3):
         yield invert(2, n + m, x * 2 ** m, 2 ** m, 1)
     for bits in (31, 32, 52, 62, 63) if n == 7 else (31, 63):
@@ -182,8 +186,9 @@ def longer(n, x):
 
 
 def bits_to_the_right():
-    yield "# Bits to the right of 135, of 127 and 256, which are out of range, and of 223, whose words are then damaged; then of short operands:"
-    yield "# of 64, which is another operand where a one follows it, of 5, of 3 and 8, which are out of range, and of 27, which lies beside 223"
+    yield "# Bits to the right of 135, of 127 and 256, which are out of range, and of 223, whose words are then"
+    yield "# damaged; then of short operands: of 64, which is another operand where a one follows it, of 5, of 3 and 8,"
+    yield "# which are out of range, and of 27, which lies beside 223"
     yield "hex 02 75 8A"
     for n, x in ((7, 135), (7, 127), (7, 256), (7, 223), (6, 64), (2, 5), (2, 3), (2, 8), (4, 27)):
         yield from longer(n, x)
@@ -196,8 +201,8 @@ def bits_to_the_right():
 # ---- damaged images
 
 def wrong_words():
-    yield "# Damaged images: every choice of wrong words at k = 2, at the first, a middle and the last operand of each piece, and at each short one"
-    yield "# that stands at a node"
+    yield "# Damaged images: every choice of wrong words at k = 2, at the first, a middle and the last operand of each"
+    yield "# piece, and at each short one that stands at a node"
     changes = (0b000001, 0b100000, 0b000100, 0b111111)  # of the four words
     for choice in range(16):
         words = [int(reference.stored(2, j), 2) ^ (changes[j] if choice >> j & 1 else 0) for j in range(4)]
@@ -221,8 +226,8 @@ def each_bit():
 
 
 def wrong_neighbours():
-    yield "# Damage in a word in the middle, then also in the next one, then only there, then also in the last word, then also in the first;"
-    yield "# short operands stand at a node, and both words are read for them too"
+    yield "# Damage in a word in the middle, then also in the next one, then only there, then also in the last word,"
+    yield "# then also in the first; short operands stand at a node, and both words are read for them too"
     for k in range(3, 13):
         n = 2 * k + 3 + k % 2
         piece = 2 ** (n - k)
@@ -270,9 +275,9 @@ def last_piece():
 # ---- full ROMs
 
 def full_roms():
-    yield "# Full ROMs, built over other bytes: less than 64 bytes behind the image; then some 200, or the whole room. A byte there is changed:"
-    yield "# the last, then also one in the middle, then also the first; then the first alone, then the middle one alone, on which the other"
-    yield "# calls do not depend. Then a word is wrong too, then it alone"
+    yield "# Full ROMs, built over other bytes: less than 64 bytes behind the image; then some 200, or the whole room."
+    yield "# A byte there is changed: the last, then also one in the middle, then also the first; then the first alone,"
+    yield "# then the middle one alone, on which the other calls do not depend. Then a word is wrong too, then it alone"
     for k in PRECISIONS:
         first = size(k)
         for length in (first + 5 * k + 1, first + 160 + 9 * k if k % 2 else 16384):
@@ -353,8 +358,9 @@ def formats():
 
 
 def full_words():
-    yield "# Full words: each image, its nodes, but only some at k = 10 and 11, and the bytes of its words, all up to k = 6; then it is taken for one of"
-    yield "# plain words. In a buffer one byte short no call is served, but one of plain words is, and these are then taken for full ones"
+    yield "# Full words: each image, its nodes, but only some at k = 10 and 11, and the bytes of its words, all up to k"
+    yield "# = 6; then it is taken for one of plain words. In a buffer one byte short no call is served, but one of"
+    yield "# plain words is, and these are then taken for full ones"
     for k in PRECISIONS:
         top, own = 2 ** k, size(k, FULL)
         yield from image(k, 90, FULL)
@@ -383,7 +389,8 @@ def full_words():
 
 
 def full_operands():
-    yield "# Operands and full words: every operand with 1 to 2k + 3 fraction bits, and one on each side; then a spread of them, as above"
+    yield "# Operands and full words: every operand with 1 to 2k + 3 fraction bits, and one on each side; then a spread"
+    yield "# of them, as above"
     for k in (1, 2):
         yield from image(k, 0, FULL)
         for n in range(1, 2 * k + 4):
@@ -404,8 +411,8 @@ def full_operands():
 
 
 def wrong_full_words():
-    yield "# Wrong full words: every choice of them at k = 2, at the first, a middle and the last operand of each piece, and at each short one that"
-    yield "# stands at a node"
+    yield "# Wrong full words: every choice of them at k = 2, at the first, a middle and the last operand of each"
+    yield "# piece, and at each short one that stands at a node"
     changes = (0b00000001, 0b10000000, 0b00000100, 0b11111111, 0b01000000)  # of the five words, which are bytes
     for choice in range(32):
         words = [int(reference.stored(2, j, FULL), 2) ^ (changes[j] if choice >> j & 1 else 0) for j in range(5)]
@@ -418,7 +425,8 @@ def wrong_full_words():
 
 
 def each_full_bit():
-    yield "# Full words with one bit changed, each in turn, filling bits too; from k = 4 on, the first and the last one of a few words"
+    yield "# Full words with one bit changed, each in turn, filling bits too; from k = 4 on, the first and the last one"
+    yield "# of a few words"
     for k, count, step in ((1, 4, 8), (2, 4, 32)):
         n = 2 * k + 3
         yield from image(k, 0, FULL)
@@ -444,7 +452,8 @@ def each_full_bit():
 
 
 def last_full_word():
-    yield "# The word of node 2^k is wrong, in its last bit and then in its first one too; then also that of node 2^k - 1, then that alone"
+    yield "# The word of node 2^k is wrong, in its last bit and then in its first one too; then also that of node 2^k -"
+    yield "# 1, then that alone"
     for k in PRECISIONS:
         form = (FULL, 2, 256, 4294967295)[k % 4]
         top, n = 2 ** k, 2 * k + 4 - k % 2
@@ -461,8 +470,9 @@ def last_full_word():
 
 
 def filling_bits():
-    yield "# Filling bits: each in turn, then all, where the image is all that is lent; no other call depends on them. Then with bytes behind it, of"
-    yield "# which one is changed too: the last filling bit alone, with that byte, and the byte alone; the lowest byte is named. Then a word is wrong too"
+    yield "# Filling bits: each in turn, then all, where the image is all that is lent; no other call depends on them."
+    yield "# Then with bytes behind it, of which one is changed too: the last filling bit alone, with that byte, and"
+    yield "# the byte alone; the lowest byte is named. Then a word is wrong too"
     for k in PRECISIONS:
         top, own = 2 ** k, size(k, FULL)
         yield from image(k, 255, FULL)
@@ -485,7 +495,8 @@ def filling_bits():
                 yield "show"
             yield check(k, FULL)
             bit = 8 * own - 1 if filling else 8 * own  # the first bit behind the image, where it has no filling bit
-            for change in (flip(bit), f"xor {own + more - 1} {1 << k % 8}", flip(bit), flip_last(k, top, FULL), flip(bit)):
+            behind = f"xor {own + more - 1} {1 << k % 8}"
+            for change in (flip(bit), behind, flip(bit), flip_last(k, top, FULL), flip(bit)):
                 yield change
                 yield check(k, FULL)
             yield node(top - 1, top, k, FULL)
@@ -524,12 +535,14 @@ OTHERS = [(form, a, b) for form in (PLAIN, FULL) for a, b in GUARD_BITS if (a, b
 
 
 def an_image_each(k):
-    """Tables of precision k with three and with four table guard bits, plain and full; the input guard bits change from one precision to the next."""
+    """Tables of precision k with three and with four table guard bits, plain and full; the input guard bits change from
+    one precision to the next."""
     return [(form, a, 3 + (k + a + form) % 3) for form in (PLAIN, FULL) for a in (3, 4)]
 
 
 def guard_bit_sizes():
-    yield "# What a format of other guard bits says of itself, and a precision of its words; any number can be asked for"
+    yield "# What a format of other guard bits says of itself, and a precision of its words; any number can be asked"
+    yield "# for"
     for form in (PLAIN, FULL):
         for a, b in ((3, 3), (4, 5)):
             yield f"format 0 13{ending(form, a, b)}"
@@ -547,7 +560,8 @@ def guard_bit_sizes():
 
 
 def guard_bit_images():
-    yield "# Images with other table guard bits; a few nodes, and the bytes of a few words, all up to k = 2; then in a buffer one byte short"
+    yield "# Images with other table guard bits; a few nodes, and the bytes of a few words, all up to k = 2; then in a"
+    yield "# buffer one byte short"
     for k in PRECISIONS:
         top = 2 ** k
         for table in an_image_each(k):
@@ -580,7 +594,8 @@ def guard_bit_operands():
             yield from image(1, 0, form, a, b)
             for n in range(1, b + 3):
                 yield invert(1, n, 2 ** n - 1, 2 ** n + 2, 1, form, a, b)
-    yield "# Operands and other guard bits: nodes and their neighbours; an operand cut and padded, with zeros and ones to its right; short operands"
+    yield "# Operands and other guard bits: nodes and their neighbours; an operand cut and padded, with zeros and ones"
+    yield "# to its right; short operands"
     for k in PRECISIONS[1:]:
         for form, a, b in OTHERS:
             if (k + a + b + form) % 2:
@@ -600,7 +615,8 @@ def guard_bit_operands():
             yield invert(k, k + 1, x // 2 ** (k + b - 1), 1, 0, *table)
 
 
-# By precision, operands with 2k + 5 fraction bits of which one or another has another reciprocal for any two choices of guard bits.
+# By precision, operands with 2k + 5 fraction bits of which one or another has another reciprocal for any two choices of
+# guard bits.
 TELLING = {
     2: (553, 554, 573, 614, 660, 784),
     3: (2573, 2574, 2600, 2601, 2656, 2657),
@@ -623,13 +639,14 @@ def told_apart():
 
 
 def guard_bits_to_the_right():
-    yield "# Bits to the right with other guard bits, zeros and ones behind the first 2k + b fraction bits: of operands cut and padded, of some out of range;"
-    yield "# then of operands beside a wrong word"
+    yield "# Bits to the right with other guard bits, zeros and ones behind the first 2k + b fraction bits: of operands"
+    yield "# cut and padded, of some out of range; then of operands beside a wrong word"
     for table in ((PLAIN, 2, 4), (FULL, 2, 5), (PLAIN, 3, 4), (PLAIN, 4, 5)):
         cut = table[-1] + 4
         beside = [(cut, 2 ** (cut + 1) - 3), (4, 29)]
         yield from image(2, 0, *table)
-        for changes, operands in (((), [*beside, (cut, 2 ** cut - 1), (cut, 2 ** (cut + 1)), (3, 7), (3, 16)]), ((flip_last(2, 3, *table),), beside)):
+        turned_back = [(cut, 2 ** cut - 1), (cut, 2 ** (cut + 1)), (3, 7), (3, 16)]
+        for changes, operands in (((), [*beside, *turned_back]), ((flip_last(2, 3, *table),), beside)):
             yield from changes
             for n, x in operands:
                 yield invert(2, n, x, 1, 0, *table)
@@ -651,7 +668,8 @@ def guard_bit_changes():
                     yield node(0, 2, k, *table)
                     yield invert(k, 3, 11, 2, 2, *table)
                 yield flip(bit)
-    yield "# Damage in a word in the middle, then in the next one too, then there alone, then in the first bit of the last word too"
+    yield "# Damage in a word in the middle, then in the next one too, then there alone, then in the first bit of the"
+    yield "# last word too"
     for k in range(3, 13):
         for table in an_image_each(k) + [(k % 2, 2, 4 + k % 2)]:
             middle, last = 2 ** (k - 1) + k % 4, reference.count(k, table[0]) - 1
@@ -671,7 +689,8 @@ def guard_bit_changes():
             yield flip_first(k, last, *table)
             yield check(k, *table)
             yield invert(k, k, 2 ** (k + 1) - 2, 2, 1, *table)
-    yield "# The widest words, two of which have up to 60 bits, wherever in a byte they begin: the last bit of each in turn is changed, and the first one"
+    yield "# The widest words, two of which have up to 60 bits, wherever in a byte they begin: the last bit of each in"
+    yield "# turn is changed, and the first one"
     for table in ((FULL, 3, 5), (FULL, 4, 3), (FULL, 4, 5)):
         yield from image(12, 0, *table)
         for j in (*range(1, 9), *range(4089, 4097)):
@@ -682,7 +701,8 @@ def guard_bit_changes():
 
 
 def guard_bit_tails():
-    yield "# Plain words that end within a byte: every content of the filling bits, which no call but the check depends on"
+    yield "# Plain words that end within a byte: every content of the filling bits, which no call but the check depends"
+    yield "# on"
     for k, a in ((1, 3), (1, 4), (2, 3)):
         whole = reference.image(k, PLAIN, a)
         filling = 8 * len(whole) - reference.bit_count(k, PLAIN, a)
@@ -694,8 +714,8 @@ def guard_bit_tails():
                 yield from both(node(0, 2 ** k + 1, k, *table))
                 yield word(2 ** k - 1, 2 ** k, k, *table)
                 yield from both(invert(k, k + 2, 2 ** (k + 3) - 5, 5, 1, *table))
-    yield "# Full ROMs with other table guard bits, built over other bytes: all filling bits are set, where there are any, then the last byte is changed"
-    yield "# too, then that alone, with a word"
+    yield "# Full ROMs with other table guard bits, built over other bytes: all filling bits are set, where there are"
+    yield "# any, then the last byte is changed too, then that alone, with a word"
     for k in PRECISIONS:
         for table in an_image_each(k):
             own = size(k, *table)
@@ -720,10 +740,11 @@ def guard_bit_tails():
 
 
 def guard_bit_refusals():
-    yield "# Guard bits out of their ranges, in every call, with a buffer that is right, wrong or too short, and precisions, nodes and operands that are"
-    yield "# turned back too"
+    yield "# Guard bits out of their ranges, in every call, with a buffer that is right, wrong or too short, and"
+    yield "# precisions, nodes and operands that are turned back too"
     outside = [(1, 3), (5, 4), (2, 2), (4, 6), (0, 0), (258, 3), (2, 259), (4294967295, 4294967295)]
-    for form, contents in ((PLAIN, ("02 75 8A", "FF FF FF", "02")), (FULL, ("80 67 56 4A 40", "00 00 00 00 00", "80 67 56"))):
+    for form, contents in ((PLAIN, ("02 75 8A", "FF FF FF", "02")),
+                           (FULL, ("80 67 56 4A 40", "00 00 00 00 00", "80 67 56"))):
         for number, data in enumerate(contents):
             yield f"hex {data}"
             for a, b in outside[:4] if number else outside:
@@ -759,8 +780,8 @@ def guard_bit_refusals():
 # ---- steps of neighbours
 
 def across_a_node(k, a, b):
-    """Two cut operands, the one before node 1 and the other behind it, as far apart as possible where R falls by all that it may from the one to the
-    other, d / 2^(b-1) rounded up, and no farther from the node than 2^k, or 64."""
+    """Two cut operands, the one before node 1 and the other behind it, as far apart as possible where R falls by all
+    that it may from the one to the other, d / 2^(b-1) rounded up, and no farther from the node than 2^k, or 64."""
     node, most = 2 ** (2 * k + b) + 2 ** (k + b), min(2 ** k, 64)
     given = {t: reference.reciprocal(k, 2 * k + b, t, a, b) for t in range(node - most, node + most + 1)}
     found = [(after - t, t, after) for t in range(node - most, node) for after in range(node + 1, node + most + 1)
@@ -769,8 +790,9 @@ def across_a_node(k, a, b):
 
 
 def neighbours():
-    yield "# Steps of neighbours, by plain words and by full ones: from the least operand, where R falls by all that it may over each distance below 2^k, and"
-    yield "# across a node; by full words from an operand of one fraction bit, and to operands with ones to the right, too"
+    yield "# Steps of neighbours, by plain words and by full ones: from the least operand, where R falls by all that it"
+    yield "# may over each distance below 2^k, and across a node; by full words from an operand of one fraction bit,"
+    yield "# and to operands with ones to the right, too"
     for a, b in GUARD_BITS:
         for k in (b, 12 - a % 2):
             n = 2 * k + b
@@ -786,10 +808,11 @@ def neighbours():
                     yield invert(k, n + 2, t * 4 + 3, 2, (after - t) * 4, *table)
 
 
-PARTS = [document01, table2, every_operand, spread, single_precision, bits_to_the_right, wrong_words, each_bit, wrong_neighbours,
-         last_piece, full_roms, limits, order, formats, full_words, full_operands, wrong_full_words, each_full_bit, last_full_word,
-         filling_bits, full_refusals, guard_bit_sizes, guard_bit_images, guard_bit_operands, told_apart, guard_bits_to_the_right,
-         guard_bit_changes, guard_bit_tails, guard_bit_refusals, neighbours]
+PARTS = [set_examples, table2, every_operand, spread, single_precision, bits_to_the_right, wrong_words, each_bit,
+         wrong_neighbours, last_piece, full_roms, limits, order, formats, full_words, full_operands, wrong_full_words,
+         each_full_bit, last_full_word, filling_bits, full_refusals, guard_bit_sizes, guard_bit_images,
+         guard_bit_operands, told_apart, guard_bits_to_the_right, guard_bit_changes, guard_bit_tails,
+         guard_bit_refusals, neighbours]
 
 
 def script():
