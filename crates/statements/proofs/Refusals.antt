@@ -48,13 +48,13 @@
 -- 9. All of it holds whether or not the caller has looked first.
 --    No open function has a `requires`, those for C among them.
 --    What a call promises is, on all inputs, an equation with the definitions of which this page speaks.
---    Clauses of its own say what that comes to: `value`, `within_ulp`, `passes`.
 --    These are `build_outcome` and `build_leaves` of `building::build`, and `check_outcome` of `checking::check`.
 --    `node_outcome` is of `reading::node` and `BoundTable::node`.
 --    `reciprocal_outcome` is of `inverting::reciprocal` and `BoundTable::reciprocal`.
 --    `shown_part` and `shown_from` are of `reading::word_bytes`, `shown_from` and `shown_count` of
 --    `reading::word_part`.
 --    `bound` is of `BoundTable::new`.
+--    Clauses beside the equations say what they come to: `value`, `within_ulp`, `passes`.
 use mathlib.Core.Path.{◌≡◌, refl}
 use mathlib.Core.Logic.{◌↔◌, ◌⊎◌}
 use mathlib.Core.List.{List, [], ◌∷◌}
