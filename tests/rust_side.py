@@ -361,6 +361,18 @@ def bench_words():
     return None
 
 
+def bench_words_at_once():
+    """A short table is written as one: who takes its first lines alone, as `head` does, stops no write."""
+    reader, writer = os.pipe2(os.O_DIRECT)  # what is read is what one write wrote
+    try:
+        subprocess.run([examples() / "bench_words", "2"], stdout=writer, timeout=60, check=True)
+        found = os.read(reader, 4096)
+    finally:
+        os.close(reader)
+        os.close(writer)
+    return None if found == b"0 128\n1 103\n2 86\n3 74\n4 64\n" else f"the first write is {found!r}"
+
+
 def proofread():
     """Files of each precision, right, with tails, and with some bits damaged, the set examples among them; and in each
     form, with all guard bits."""
@@ -610,6 +622,7 @@ def tests():
     yield "rust: reciprocals are the reference's", reciprocals
     yield "rust: reciprocals takes lines of at most 1000 bytes", lines_bounded
     yield "rust: bench_words has the nodes from the words of each full image, with all guard bits", bench_words
+    yield "rust: bench_words writes a short table at once", bench_words_at_once
     yield f"rust: {len(MISTAKES)} mistakes in calling the examples give a message and an exit status", mistakes
     yield "rust: an example whose output cannot be written, or whose input cannot be read, says so", streams_closed
     yield "rust: the first call of rust/README.md, copied to a shell", page_first_call

@@ -9,7 +9,7 @@
 #![forbid(unsafe_code)]
 
 use std::error::Error;
-use std::io::{self, Write};
+use std::io::{self, BufWriter, Write};
 use std::process::ExitCode;
 
 use yildegga::Format;
@@ -33,9 +33,11 @@ fn bench_words(call: Call) -> Result<u8, Box<dyn Error>> {
     yildegga::build(format, &mut image)?;
 
     let width = format.word_bits().unwrap_or(0) as usize;
+    let mut output = BufWriter::new(io::stdout().lock());
     for j in 0..format.word_count().unwrap_or(0) {
-        writeln!(io::stdout(), "{j} {}", word(&image, width, j as usize))?;
+        writeln!(output, "{j} {}", word(&image, width, j as usize))?;
     }
+    output.flush()?;
     Ok(0)
 }
 
