@@ -5,6 +5,7 @@ import os
 import pathlib
 import random
 import re
+import signal
 import subprocess
 import tempfile
 
@@ -274,6 +275,38 @@ def streams_agree():
     return None if same and in_c[:2] == (2, "128 32\n256 refused 5 0\n") else f"in C {in_c}, in Rust {in_rust}"
 
 
+def streams_apart():
+    """What rust/README.md says to be apart. With nobody to read the output, SIGPIPE ends the program in C, and that in
+    Rust ends with status 2 and a message. A standard stream that is closed, or not open for what it is there for, ends
+    that in C with status 2 and a message, and is `/dev/null` for that in Rust."""
+    for name, *words in (("bench_words", "12"), ("order_image", "2", "new"), ("proofread", "2", "right"),
+                         ("proofread", "2", "damaged"), ("reciprocals", "2", "7", "128")):
+        programs = c_examples.example(name), rust_side.examples() / name
+        reader, writer = os.pipe()
+        os.close(reader)
+        try:
+            gone = [ran(program, words, stdin=subprocess.DEVNULL, stdout=writer)[::2] for program in programs]
+        finally:
+            os.close(writer)
+        if gone != [(-signal.SIGPIPE, ""), (2, f"{name}: Broken pipe\n")]:
+            return f"{name} {words}, nobody to read the output: {gone}"
+        why = closed(programs, words, f"{name}: Bad file descriptor\n", ">&-", "1</dev/null")
+        if why:
+            return f"{name} {words}, {why}"
+    programs = c_examples.example("reciprocals"), rust_side.examples() / "reciprocals"
+    return closed(programs, ["2", "7"], "reciprocals: Bad file descriptor\n", "<&-", "0>/dev/null")
+
+
+def closed(programs, words, message, *ways):
+    """A standard stream in some ways: in C a message and status 2, and in Rust what `/dev/null` in its place makes."""
+    for way in ways:
+        in_c, in_rust = (ran("sh", ["-c", f'exec "$0" "$@" {way}', program, *words]) for program in programs)
+        taken = ran(programs[1], words, stdin=subprocess.DEVNULL, stdout=subprocess.DEVNULL)
+        if in_c[::2] != (2, message) or (in_rust[0], *in_rust[2:]) != (taken[0], *taken[2:]) or in_rust[1]:
+            return f"{way}: in C {in_c[:3]}, in Rust {in_rust[:3]}"
+    return None
+
+
 SAID = """use yildegga::{build, check, node, reciprocal, Format, Refused};
 
 fn said(refused: Refused) {
@@ -323,5 +356,6 @@ def tests():
         yield (f"twins: {name} in C and in Rust, on {len(list(cases()))} calls and inputs",
                lambda name=name, cases=cases: agree(name, cases))
     yield "twins: output that cannot be written, and input that cannot be read", streams_agree
+    yield "twins: what is apart, output that nobody reads and standard streams that are closed", streams_apart
     yield "twins: the words of the refusals", same_words
     yield "twins: the version", same_version
