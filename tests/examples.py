@@ -106,6 +106,9 @@ def no_room(program, folder):
     found = limited(program, "2", folder / "huge", "--size", str(2 ** 30))
     if found != (2, "", "order_image: out of memory\n"):
         return f"{found}"
+    found = limited(program, "13", folder / "huge", "--size", str(2 ** 30))  # none is asked for without a table
+    if found != (1, "", "order_image: refusal 1: the precision is below 1 or above 12\n"):
+        return f"{found}"
     return "it made a file" if (folder / "huge").exists() else None
 
 

@@ -42,7 +42,9 @@ int main(int argc, char **argv)
     if (!read_call(program, argc, argv, &call) || !read_word(program, "K", call.words[0], &k))
         return NOT_CALLED;
     yildegga_format format = asked(&call, k);
-    size_t size = call.options[SIZE].given ? call.options[SIZE].number : yildegga_image_length(format);
+    size_t size = yildegga_image_length(format); /* 0 where there is no table, whatever the size asked for */
+    if (size > 0 && call.options[SIZE].given)
+        size = call.options[SIZE].number;
 
     uint8_t *rom = malloc(size);
     if (!rom && size > 0) /* with no bytes NULL is as good as another pointer: the library turns the call back */

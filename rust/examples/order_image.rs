@@ -23,9 +23,10 @@ fn order(call: Call) -> Result<u8, Box<dyn Error>> {
     let k = PROGRAM.number("K", &call.words[0])?;
     let file = Path::new(&call.words[1]);
     let format = call.format(k);
-    let size = match call.size {
-        Some(size) => size as usize,
-        None => format.image_length().unwrap_or(0),
+    let size = match (format.image_length(), call.size) {
+        (None, _) => 0, // there is no table, whatever the size asked for
+        (Some(_), Some(size)) => size as usize,
+        (Some(image), None) => image,
     };
 
     let mut rom = Vec::new();
