@@ -119,6 +119,16 @@ def line_without_end(program):
     return None if found == expected else f"{found}"
 
 
+def given_up(program, **more):
+    """A list of operands without end is given up where its lines cannot be written."""
+    with open("/dev/full", "wb") as full, subprocess.Popen(["yes", "128"], stdout=subprocess.PIPE) as operands:
+        done = subprocess.run([program, "2", "7"], stdin=operands.stdout, stdout=full, stderr=subprocess.PIPE,
+                              timeout=20, **more)
+    said = done.stderr.decode().replace(" (os error 28)", "")
+    told = (done.returncode, said) == (2, "reciprocals: No space left on device\n")
+    return None if told else f"status {done.returncode}, said {said!r}"
+
+
 def read_to_an_error(words, **more):
     """The status of a program whose standard input has the lines 128 and 256, then the beginning of a third one, 13,
     and cannot be read from there on, and what it prints and says."""

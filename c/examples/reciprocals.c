@@ -33,7 +33,8 @@ static bool no_operand(const char *why)
     return false;
 }
 
-/* Prints the line of the next operand. False, with no line, where it is no number. */
+/* Prints the line of the next operand. False, which ends the list, where it is no number and has no line, and where
+   lines cannot be written. */
 static bool answer(const char *text, size_t length)
 {
     uint64_t x;
@@ -47,7 +48,7 @@ static bool answer(const char *text, size_t length)
         printf("%" PRIu64 " refused %" PRIu32 " %" PRIu64 "\n", x, given.number, given.place);
         status = TURNED_BACK;
     }
-    return true;
+    return !ferror(stdout);
 }
 
 /* Reads the next line of standard input and answers it. False at the end of the input or of the list. A line that
