@@ -20,7 +20,10 @@ LIBDIR = $(PREFIX)/lib
 CFLAGS = -O2 -Wall -Wextra
 
 ifneq ($(words $(PREFIX)) $(words $(INCLUDEDIR)) $(words $(LIBDIR)),1 1 1)
-$(error a folder with a space in its name is not taken)
+$(error PREFIX, INCLUDEDIR and LIBDIR are each one folder, with no space in its name)
+endif
+ifneq ($(strip $(foreach sign,& | \,$(findstring $(sign),$(PREFIX)$(INCLUDEDIR)$(LIBDIR)))),)
+$(error a folder with one of the signs & | \ in its name is not taken)
 endif
 
 ARCHIVE = target/staticlib/libyildegga.a

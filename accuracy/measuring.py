@@ -74,7 +74,7 @@ def decimal(low, high, places):
     rounded = {round(end * 10 ** places) for end in (low, high)}
     assert len(rounded) == 1, f"{places} places are not settled between {float(low)} and {float(high)}"
     count = rounded.pop()
-    sign, digits = "−" if count < 0 else "", f"{abs(count):0{places + 1}d}"
+    sign, digits = "-" if count < 0 else "", f"{abs(count):0{places + 1}d}"
     return f"{sign}{digits[:-places]}.{digits[-places:]}"
 
 

@@ -192,7 +192,7 @@ def guard_bits_picture(k):
         plot.line([(x, below), (x, above)], BLUE, 16)
         plot.dot(x, mean, BLUE, "#ffffff")
         plot.label(x, 1, -8, measuring.decimal(above, above, 3), BLUE)
-        plot.label(x, -1, 19, measuring.decimal(below, below, 3), BLUE)
+        plot.label(x, -1, 19, measuring.decimal(below, below, 3).replace("-", "−"), BLUE)
     plot.ticks(labels, [(-1, "−1"), (-0.5, "−½"), (0, "0"), (0.5, "½"), (1, "1")])
     plot.names("", "R − exact, in ulps")
 

@@ -94,7 +94,7 @@ def guard_bits_by_fractions(k):
 def digits(k):
     """The figures in the rows of precision k on the page: whole numbers and decimals, without the fractions."""
     rows = re.findall(rf"^\| {k} \| (.*) \|$", page.PAGE.read_text(), re.M)
-    return [Fraction(cell.split("=")[0].replace("−", "-")) if re.match(r"[−\d]", cell) else None
+    return [Fraction(cell.split("=")[0]) if re.match(r"[-\d]", cell) else None
             for row in rows for cell in row.split(" | ")]
 
 

@@ -378,6 +378,13 @@ def installed_elsewhere():
     return f"left are {files(stage)}" if files(stage) else None
 
 
+def names_not_taken():
+    """A folder's name that make or sed would take apart is refused before anything is done."""
+    names = ["", "target/tests-c/a b", *(f"target/tests-c/a{sign}b" for sign in "&|\\")]
+    taken = [name for name in names if run(need("make", "make"), "-n", "install", f"PREFIX={name}").returncode == 0]
+    return f"taken are {taken}" if taken else None
+
+
 def clean():
     """In a copy of the repository and its proofs: clean takes away the archive and the examples and nothing else, and
     make brings the archive back."""
@@ -429,5 +436,6 @@ def tests():
     yield "c: the refusals in words: each has a text of its own, and so have 0 and any other number", refusals_in_words
     yield "c: make install, and pkg-config finds it", installed
     yield "c: make install with DESTDIR and LIBDIR, and make uninstall", installed_elsewhere
+    yield "c: make install refuses names that it would take apart", names_not_taken
     yield "c: make clean, and make after it", clean
     yield from c_examples.tests()

@@ -1,7 +1,7 @@
 """Tests of the pages of theorems: what a page's heading and docs/SCOPE.md name stands there, so that none goes unseen.
 
-A page is what crates/statements/proofs/Lib.antt has as `pub mod`, and PAGES has their names. A page's heading is the comment before the first `use`.
-A heading writes a theorem's name bare: a word with `_` or `-` in it, or a word of a list ": NAME, NAME." What stands in
+A page is what crates/statements/proofs/Lib.antt has as `pub mod`, and PAGES has their names. A page's heading is the
+comment before the first `use`. A heading writes a theorem's name bare: a word with `_` or `-` in it, or a word of a list ": NAME, NAME." What stands in
 backquotes is code, and no theorem.
 """
 import re

@@ -6,6 +6,7 @@ import pathlib
 import random
 import re
 import subprocess
+import tempfile
 import time
 from collections import Counter
 from fractions import Fraction
@@ -515,9 +516,11 @@ def printed_set_table():
 
 
 def one_command():
-    """./print-table 2, which the README has a newcomer type, started in another folder."""
-    done = subprocess.run([ROOT / "print-table", "2"], cwd="/", stdin=subprocess.DEVNULL, capture_output=True,
-                          timeout=3600)
+    """./print-table 2, which the README has a newcomer type, started in another folder and by a link from there."""
+    with tempfile.TemporaryDirectory() as folder:
+        link = pathlib.Path(folder) / "table"
+        link.symlink_to(ROOT / "print-table")
+        done = subprocess.run([link, "2"], cwd="/", stdin=subprocess.DEVNULL, capture_output=True, timeout=3600)
     return same(done.stdout, PRINTED_2) or (f"exit status {done.returncode}" if done.returncode else None)
 
 
